@@ -1,0 +1,24 @@
+-- Laws of the definitions' own parts, then the heap's, then the theorems: Image (encode and decode), Kept (what calls leave),
+-- Demand (demand 3), Reading (command files), Figure (rounding).
+pub mod Res
+pub mod Lists
+pub mod Reach
+pub mod Contents
+pub mod Sort
+pub mod Barrier
+pub mod Masks
+pub mod Tiles
+pub mod Members
+pub mod Elder
+pub mod Moves
+pub mod Change
+pub mod Collect
+pub mod Calls
+pub mod Cells
+pub mod Regions
+pub mod Image
+pub mod Kept
+pub mod Demand
+pub mod Texts
+pub mod Reading
+pub mod Figure
