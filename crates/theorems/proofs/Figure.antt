@@ -1,5 +1,4 @@
 -- The figure is off by at most half a thousandth from the Float's exact value.
--- Assumes nothing.
 use mathlib.Core.Path.{_≡_, refl, ap}
 use mathlib.Core.Bool.{Bool, true, false, and-true, and-false}
 use Prim.Native.Nat.{ℕ, _+_, _*_, _/_, _<_}

@@ -1,5 +1,4 @@
 -- A heap that fits is read back from its image; words that are sized and formed are the image of a heap that fits.
--- Assumes nothing.
 use mathlib.Core.Path.{_≡_, refl, sym, ap, ap₂, _∙_}
 use mathlib.Core.Bool.{true, _&&_}
 use mathlib.Core.Logic.{_↔_}
@@ -14,7 +13,7 @@ use Rattle.model.specs.Barrier.{most, counts}
 use Rattle.model.specs.Heap.{Sizes, inBounds, Heap, fresh, inUse}
 use Rattle.model.specs.Image.{Regions, imageLength, sizesOf, regions, flag, encode, decode, sized, cursorIn, tiles, flagged, packedCells, formed}
 use Rattle.model.specs.Calls.{cellsIn}
-use Rattle.theorems.specs.Fit.{Fit}
+use Rattle.theorems.specs.Fit.{Fit, Image}
 use borrow.Author.Tests.{eqb-true, lt-ltb, leb-true, le-leb}
 use Rattle.theorems.proofs.Lists.{and-right, and-parts, eqb-same}
 use Rattle.theorems.proofs.Cells.{words-length, cellsOf-length, valid-blanks, whole-words, words-in, in-of, whole-back, whole-valid, packed-words}
@@ -245,3 +244,14 @@ fresh-fit z b = record {
   };
   old = record { colls = zero-le; bar = fit-absent; slots = length-replicate (z .s) []; room = rw (flat-none (z .s)) zero-le; valid = rw (flat-none (z .s)) };
 }
+
+-- words that pass 1 and 2 are the image of the heap that they decode to, and of no other
+
+pub image-of : (w : List ℕ) → sized w ≡ true → formed w ≡ true → Image w (decode w)
+image-of w s f = record { is = sym (encode-decode w s f); fit = decode-fit w s f }
+
+pub image-decode : {w : List ℕ} {h : Heap} → Image w h → decode w ≡ h
+image-decode {w} {h} i = ap decode (i .is) ∙ decode-encode h (i .fit)
+
+pub image-sized : {w : List ℕ} {h : Heap} → Image w h → (sized w ≡ true) × (formed w ≡ true)
+image-sized {w} {h} i = rw (i .is) (encode-sized h (i .fit), encode-formed h (i .fit))

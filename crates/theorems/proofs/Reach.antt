@@ -1,5 +1,4 @@
 -- The walk's list is the least set: each member once, and nothing else.
--- Assumes nothing.
 use mathlib.Core.Path.{_≡_, refl, sym, ap, _∙_}
 use mathlib.Core.Bool.{Bool, true, false, _||_, true≢false, or-true}
 use mathlib.Core.Logic.{_⊎_, _↔_, inl, inr, ⊎-map, ⊎-elim}

@@ -1,5 +1,4 @@
 -- An image's parts: barriers, the elder's slots, the ten words, and the six regions joined and taken apart.
--- Assumes nothing.
 use mathlib.Core.Path.{_≡_, refl, sym, ap, ap₂, _∙_}
 use mathlib.Core.Bool.{true, false≢true}
 use mathlib.Core.List.{List, [], _∷_, _++_, map}

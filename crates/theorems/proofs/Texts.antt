@@ -1,5 +1,4 @@
 -- The listing's texts have no LF: they are words, decimals, spaces, a minus and a point.
--- Assumes nothing.
 use mathlib.Core.Path.{_≡_, refl}
 use mathlib.Core.Bool.{Bool, true, false, not, _&&_, cond, and-assoc}
 use mathlib.Core.List.{List, [], _∷_, _++_, append-assoc}

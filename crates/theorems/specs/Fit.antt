@@ -1,13 +1,14 @@
 -- A heap that an image can hold: what question 1 and 2 ask of the words, said of the heap.
 use mathlib.Core.Path.{_≡_}
 use mathlib.Core.Bool.{true}
-use Prim.Native.Nat.{_≤_}
+use mathlib.Core.List.{List}
+use Prim.Native.Nat.{ℕ, _≤_}
 use lib.ListN.{length}
 use Rattle.model.specs.Lists.{flat, allAtMost}
 use Rattle.model.specs.Records.{allValid}
 use Rattle.model.specs.Barrier.{Barrier, cache, most, counts}
 use Rattle.model.specs.Heap.{Nursery, Elder, Sizes, inBounds, Heap, inUse}
-use Rattle.model.specs.Image.{cursorIn, tiles}
+use Rattle.model.specs.Image.{cursorIn, tiles, encode}
 
 pub record FitBarrier (b : Barrier) : Type 0 where
   pub size : length (counts b) ≡ cache
@@ -34,3 +35,8 @@ pub record Fit (h : Heap) : Type 0 where
   pub sizes : inBounds (h .size) ≡ true
   pub young : FitNursery (h .size) (h .young)
   pub old : FitElder (h .size) (h .old)
+
+-- the words are the image of the heap
+pub record Image (w : List ℕ) (h : Heap) : Type 0 where
+  pub is : w ≡ encode h
+  pub fit : Fit h
