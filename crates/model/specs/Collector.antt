@@ -28,7 +28,7 @@ swapCell m c = elim (holds (m .0) c) [ true ↦ ref (movedTo m) | false ↦ c ]
 unfoldable pub countSwap : ℕ → Ptr × ℕ → Cell → Barrier → Res Barrier
 countSwap own m c w = elim (holds (m .0) c) [ true ↦ (countOut own c w >>= countIn own (ref (movedTo m))) | false ↦ ok w ]
 
--- in nursery cells below the cursor
+-- in nursery cells below the cursor, which is the one after the new allocation
 unfoldable pub swapYoung : Ptr × ℕ → Nursery → Res Nursery
 swapYoung m y = do
   w ← each (countSwap 0 m) (take (y .cursor) (y .cells)) (y .bar)
@@ -61,7 +61,7 @@ pub record Allocation : Type 0 where
 unfoldable pub fourCounts : Allocation → List ℕ
 fourCounts r = r .collections ∷ length (r .members) ∷ length (sweepsOf (r .steps)) ∷ sum (map length (sweepsOf (r .steps))) ∷ []
 
--- after the nursery's collection the amount is tried there again, then given to the elder
+-- after the nursery's collection the amount is tried there again, then given to the elder, without an elder collection
 unfoldable pub allocAgain : Sizes → ℕ → Nursery → Elder → Res (Ptr × Nursery × Elder)
 allocAgain z a y e =
     elim (ltb a (z .n - y .cursor)) [
@@ -69,7 +69,7 @@ allocAgain z a y e =
       | false ↦ placeNew z a e >>= λ r. ok (whole 1 (r .0), y, r .1)
     ]
 
--- the masks are taken at the start
+-- the masks are taken at the start: the nursery's from the elder's barrier, the elder's from the nursery's
 unfoldable pub collectAndAlloc : Heap → List Cell → ℕ → Res Allocation
 collectAndAlloc h roots a =
     let y = h .young in

@@ -39,6 +39,7 @@ littleEndian (b ∷ bs) = b + 256 * littleEndian bs
 unfoldable pub field : List ℕ → ℕ → ℕ → ℕ
 field w at k = littleEndian (take k (drop at w))
 
+-- `parse` asks operandBytes first, so any other byte than these is never looked at
 unfoldable pub commandOf : ℕ → List ℕ → Command
 commandOf op w =
     cond (eqb op 0x4E) (new (record { n = field w 0 2; t = field w 2 2; s = field w 4 2; c = field w 6 2 }))

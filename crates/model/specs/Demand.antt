@@ -3,7 +3,7 @@ use mathlib.Core.Path.{_≡_}
 use mathlib.Core.Bool.{Bool, true, false, _&&_}
 use mathlib.Core.Logic.{_↔_, _⊎_, _≢_}
 use mathlib.Core.List.{List, [], _∷_, map, List·Memᴰ}
-use Prim.Native.Nat.{ℕ, suc, _+_, _*_, _%_, _/_, _^_, _≤_, _<_}
+use Prim.Native.Nat.{ℕ, suc, _+_, _-_, _*_, _%_, _/_, _^_, _≤_, _<_}
 use lib.Dec.{eqb}
 use lib.ListN.{length, getD, set, take, drop, replicate}
 use Rattle.model.specs.Lists.{keepIf, flat, sum}
@@ -11,7 +11,7 @@ use Rattle.model.specs.Reach.{Least, NoDup, Exact}
 use Rattle.model.specs.Res.{ok, _>>=_}
 use Rattle.model.specs.Records.{Ptr, Cell, plain, ref, blank, whole, biased}
 use Rattle.model.specs.Barrier.{Barrier, count}
-use Rattle.model.specs.Heap.{Nursery, Elder, Sizes, Heap, fresh, held}
+use Rattle.model.specs.Heap.{Nursery, Elder, Sizes, inBounds, Heap, fresh, held}
 use Rattle.model.specs.Image.{sizesOf, encode, decode, sized, formed}
 use Rattle.model.specs.Elder.{Step, move, sweeping, movesOf, sweepsOf}
 use Rattle.model.specs.Collector.{Allocation}
@@ -65,15 +65,18 @@ pub record Swept (h : Heap) (roots : List Cell) (ps : List Ptr) (e e′ : Elder)
   pub dropped : (b : ℕ) → (Least (OldStart h roots e) (OldLeads e) (whole 1 b) → ⊥) → getD (e′ .slots) b [] ≡ []
   pub collections : e′ .colls ≡ suc (e .colls)
 
--- each step begins where the one before ended
-abbrev pub Chain : Heap → List Cell → Elder → List Step → Elder → Type 0
-Chain h roots e [] e′ = e ≡ e′
-Chain h roots e (move p b x y ∷ l) e′ = (x ≡ e) × Copied h p b x y × Chain h roots y l e′
-Chain h roots e (sweeping ps x y ∷ l) e′ = (x ≡ e) × Swept h roots ps x y × Chain h roots y l e′
+-- Each step begins where the one before ended. A move comes right after a collection, or where the allocations number less
+-- than T; a collection comes right before a move. The flags say whether the step before is a collection.
+abbrev pub Chain : Heap → List Cell → Bool → Elder → List Step → Bool → Elder → Type 0
+Chain h roots swept e [] swept′ e′ = (swept ≡ swept′) × (e ≡ e′)
+Chain h roots swept e (move p b x y ∷ l) swept′ e′ = (x ≡ e) × ((swept ≡ true) ⊎ (held (x .slots) < h .size .t)) × Copied h p b x y × Chain h roots false y l swept′ e′
+Chain h roots swept e (sweeping ps x y ∷ l) swept′ e′ = (x ≡ e) × (swept ≡ false) × Swept h roots ps x y × Chain h roots true y l swept′ e′
 
--- the new allocation: young, or Uninitialized cells at the elder's new base
-abbrev pub Given : ℕ → Ptr → List (List Cell) → List (List Cell) → Type 0
-Given a p ss ss′ = ((p .heap ≡ 0) × (ss′ ≡ ss)) ⊎ ((p ≡ whole 1 (held ss)) × (ss′ ≡ set ss (held ss) (replicate a blank)))
+-- the new allocation, in the emptied nursery or as Uninitialized cells at the elder's new base
+abbrev pub Given : Sizes → ℕ → Ptr → Nursery → List (List Cell) → List (List Cell) → Type 0
+Given z a p y ss ss′ =
+    ((a < z .n) × (p ≡ whole 0 0) × (y .cursor ≡ a) × (y .lens ≡ set (replicate (z .n) 0) 0 a) × (ss′ ≡ ss))
+    ⊎ ((z .n ≤ a) × (p ≡ whole 1 (held ss)) × (held ss < z .s) × (y .cursor ≡ 0) × (y .lens ≡ replicate (z .n) 0) × (ss′ ≡ set ss (held ss) (replicate a blank)))
 
 -- a cell before and after the pointers change: a moved pointer becomes (1, new base, 0), any other cell stays
 abbrev pub Changed : List (Ptr × ℕ) → Cell → Cell → Type 0
@@ -113,9 +116,9 @@ pub record Collected (h : Heap) (roots : List Cell) (a : ℕ) (r : Allocation) :
   pub few : length (r .members) ≤ length roots + 2 * h .size .n
   -- the steps, from the elder before the call to the one that the new allocation meets; then the pointers change
   pub met : Elder
-  pub steps : Chain h roots (h .old) (r .steps) met
+  pub steps : Chain h roots false (h .old) (r .steps) false met
   pub given : List (List Cell)
-  pub new : Given a (r .ptr) (met .slots) given
+  pub new : Given (h .size) a (r .ptr) (r .heap .young) (met .slots) given
   pub elder-changed : (b : ℕ) → AllChanged (movesOf (r .steps)) (getD given b []) (getD (r .heap .old .slots) b [])
   pub roots-changed : AllChanged (movesOf (r .steps)) roots (r .roots)
   pub nursery-changed : AllChanged (movesOf (r .steps)) (take (r .heap .young .cursor) (h .young .cells)) (take (r .heap .young .cursor) (r .heap .young .cells))
@@ -134,11 +137,24 @@ pub record CollectedCall (w roots : List ℕ) (scratch a : ℕ) (o : Outcome) (l
   pub roots-after : cellsIn (o .roots) ≡ result .roots
   pub answer : l ≡ result .ptr .heap ∷ result .ptr .base ∷ result .ptr .off ∷ 1 ∷ length (result .members) ∷ length (sweepsOf (result .steps)) ∷ sum (map length (sweepsOf (result .steps))) ∷ []
 
--- an alloc that is answered, with 1 for the nursery's collections
-abbrev pub Told : List ℕ → Call → Outcome → Type 0
-Told w (allocs roots scratch a) o = (l : List ℕ) → o .answer ≡ ok l → getD l 3 0 ≡ 1 → CollectedCall w roots scratch a o l
-Told w (reads p) o = Unit {0}
-Told w (writes p v) o = Unit {0}
+-- an answered alloc whose amount stays young: nothing is collected, moved or changed but the cursor and one length
+pub record StayedCall (w roots : List ℕ) (a : ℕ) (o : Outcome) (l : List ℕ) : Type 0 where
+  pub answer : l ≡ 0 ∷ decode w .young .cursor ∷ 0 ∷ 0 ∷ 0 ∷ 0 ∷ 0 ∷ []
+  pub cursor : decode (o .image) .young .cursor ≡ decode w .young .cursor + a
+  pub lens : decode (o .image) .young .lens ≡ set (decode w .young .lens) (decode w .young .cursor) a
+  pub cells : decode (o .image) .young .cells ≡ decode w .young .cells
+  pub collections : decode (o .image) .young .colls ≡ decode w .young .colls
+  pub promotions : decode (o .image) .young .proms ≡ decode w .young .proms
+  pub barrier : decode (o .image) .young .bar ≡ decode w .young .bar
+  pub elder : decode (o .image) .old ≡ decode w .old
+  pub roots-kept : o .roots ≡ roots
+
+-- what is claimed of a call: every answered alloc stays young, by its amount, or collected the nursery
+abbrev pub Claim : List ℕ → Call → Outcome → Type 0
+Claim w (allocs roots scratch a) o = (l : List ℕ) → o .answer ≡ ok l
+    → ((a < decode w .size .n - decode w .young .cursor) × StayedCall w roots a o l) ⊎ ((decode w .size .n - decode w .young .cursor ≤ a) × CollectedCall w roots scratch a o l)
+Claim w (reads p) o = Unit {0}
+Claim w (writes p v) o = Unit {0}
 
 -- Lists of calls, each with what it answered and left: each gets the image as the last one left it
 pub data History : List ℕ → List (Call × Outcome) → List ℕ → Type 0 where
@@ -154,15 +170,19 @@ pointsAt k (ref p) = eqb (p .heap) 0 && eqb (p .base % 256) k
 abbrev pub Counted : Elder → Type 0
 Counted e = (k : ℕ) → k < 256 → length (keepIf (pointsAt k) (flat (e .slots))) ≤ count (e .bar) k
 
-abbrev pub AllTold : List ℕ → List (Call × Outcome) → Type 0
-AllTold w [] = Unit {0}
-AllTold w (x ∷ l) = Told w (x .0) (x .1) × AllTold (x .1 .image) l
+abbrev pub AllClaims : List ℕ → List (Call × Outcome) → Type 0
+AllClaims w [] = Unit {0}
+AllClaims w (x ∷ l) = Claim w (x .0) (x .1) × AllClaims (x .1 .image) l
 
 -- the claim for one list
 pub record Demand (z : Sizes) (l : List (Call × Outcome)) (v : List ℕ) : Type 0 where
   pub counts : Counted (decode v .old)
-  pub allocs-told : AllTold (encode (fresh z)) l
+  pub allocs-claimed : AllClaims (encode (fresh z)) l
   -- and no list is ever answered 1 or 2 for its image
   pub still-sized : sized v ≡ true
   pub still-formed : formed v ≡ true
   pub same-sizes : sizesOf v ≡ z
+
+-- and for all lists
+abbrev pub Demand3 : Type 0
+Demand3 = (z : Sizes) → inBounds z ≡ true → (l : List (Call × Outcome)) (v : List ℕ) → History (encode (fresh z)) l v → Demand z l v

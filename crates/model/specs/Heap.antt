@@ -18,7 +18,7 @@ pub record Sizes : Type 0 where
 unfoldable pub inBounds : Sizes → Bool
 inBounds z = leb (z .n) 2048 && leb (z .t) 8192 && leb (z .s) 8192 && leb (z .c) 65536
 
--- at each base its length, else 0
+-- `lens` has at each base its length, else 0
 pub record Nursery : Type 0 where
   pub cursor : ℕ
   pub colls : ℕ
@@ -27,7 +27,7 @@ pub record Nursery : Type 0 where
   pub lens : List ℕ
   pub cells : List Cell
 
--- at each base the cells of its allocation, [] where there is none
+-- `slots` has at each base the cells of its allocation, [] where there is none
 pub record Elder : Type 0 where
   pub colls : ℕ
   pub bar : Barrier

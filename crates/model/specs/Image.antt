@@ -67,6 +67,7 @@ encode h =
     z .n ∷ z .t ∷ z .s ∷ z .c ∷ y .cursor ∷ y .colls ∷ y .proms ∷ e .colls ∷ flag (y .bar) ∷ flag (e .bar)
     ∷ (counts (y .bar) ++ (counts (e .bar) ++ (y .lens ++ (map length (e .slots) ++ (cellWords (y .cells) ++ (cellWords (flat (e .slots)) ++ replicate ((z .c - inUse (e .slots)) * 3) 0))))))
 
+-- the heap of words for which 1 and 2 get a yes
 unfoldable pub decode : List ℕ → Heap
 decode w =
     let z = sizesOf w in

@@ -40,5 +40,6 @@ module _ {A : Type 0} (same : A → A → Bool) where
   walk step zero i l = l
   walk step (suc k) i l = elim (getElem? l i) [ none ↦ l | some x ↦ walk step k (suc i) (enter l (step x)) ]
 
+  -- a bound that is at least the set's size walks all of it
   unfoldable pub closure : (A → List A) → ℕ → List A → List A
   closure step bound start = walk step bound 0 (enter [] start)

@@ -1,9 +1,9 @@
 -- Alloc, write and report leave a fit heap of the same sizes.
 use mathlib.Core.Path.{_≡_, refl, ap, _∙_}
 use mathlib.Core.Bool.{Bool, true, false, _&&_}
-use mathlib.Core.Logic.{⊎-elim}
+use mathlib.Core.Logic.{_⊎_, inl, inr, ⊎-elim}
 use mathlib.Core.List.{List, []}
-use Prim.Native.Nat.{ℕ, zero, suc, _-_, _<_}
+use Prim.Native.Nat.{ℕ, zero, suc, _-_, _≤_, _<_}
 use native.Mathlib.Omega.{arith}
 use lib.Dec.{ltb}
 use lib.ListN.{length, getD, set, length-set}
@@ -14,32 +14,49 @@ use Rattle.model.specs.Heap.{Nursery, Elder, Sizes, Heap}
 use Rattle.model.specs.Nursery.{bump}
 use Rattle.model.specs.Elder.{oldMembers, collectOld}
 use Rattle.model.specs.Collector.{Allocation, collectAndAlloc, alloc, youngAt, oldAt, outYoung, writeYoung, writeOld, inYoung, inOld, write, report}
+use Rattle.model.specs.Demand.{Collected}
 use Rattle.theorems.specs.Fit.{FitBarrier, FitNursery}
-use Rattle.theorems.proofs.Res.{bind, bind′, asked}
-use borrow.Author.Tests.{ltb-true}
+use Rattle.theorems.proofs.Res.{bind, bind′, asked, weaken}
+use borrow.Author.Tests.{ltb-true, ltb-false}
 use Rattle.theorems.proofs.Lists.{and-left}
 use Rattle.theorems.proofs.Contents.{Valid, all-valid, valid-all, cell-set-from}
 use Rattle.theorems.proofs.Barrier.{in-fit, out-fit}
 use Rattle.theorems.proofs.Elder.{Good, sweep-good, write-good}
 use Rattle.theorems.proofs.Collect.{GoodHeap, bump-fit, collect-young, Told, collect-told}
 
+-- the answer of an alloc whose amount stays young
+unfoldable pub stayed : Heap → List Cell → ℕ → Allocation
+stayed h roots a = record {
+  heap = record { size = h .size; young = bump (h .young) a; old = h .old };
+  roots = roots;
+  ptr = whole 0 (h .young .cursor);
+  collections = 0;
+  members = [];
+  steps = [];
+}
+
+-- by its amount an alloc stays young, or it collects
+abbrev pub Kind : Heap → List Cell → ℕ → Allocation → Type 0
+Kind h roots a r =
+    ((a < h .size .n - h .young .cursor) × (r ≡ stayed h roots a))
+    ⊎ ((h .size .n - h .young .cursor ≤ a) × (r .collections ≡ 1) × Collected h roots a r)
+
 module _ (M : Type 0) where
-  pub alloc-told : (h : Heap) (roots : List Cell) (a : ℕ) → GoodHeap M h → Valid roots → Holds (Told M h roots a) (alloc h roots a)
-  unfolding alloc
+  pub alloc-told : (h : Heap) (roots : List Cell) (a : ℕ) → GoodHeap M h → Valid roots → Holds (λ r. Told M h roots r × (M → Kind h roots a r)) (alloc h roots a)
+  unfolding alloc stayed
   alloc-told h roots a g v = asked 5 (ltb 0 a && ltb a 0x8000_0000_0000_0000) _ (λ e. go (ltb-true 0 a (and-left (ltb 0 a) (ltb a 0x8000_0000_0000_0000) e)) (ltb a (h .size .n - h .young .cursor)) refl)
     where
-      young : Allocation
-      young = record { heap = record { size = h .size; young = bump (h .young) a; old = h .old }; roots = roots; ptr = whole 0 (h .young .cursor); collections = 0; members = []; steps = [] }
-
-      go : 0 < a → (t : Bool) → ltb a (h .size .n - h .young .cursor) ≡ t → Holds (Told M h roots a) (elim t [ true ↦ ok young | false ↦ collectAndAlloc h roots a ])
-      go pos true e = such {a = young} (record {
-        collected = λ _ q. let z : _≡_ {A = ℕ} 0 1 = q in absurd (omega arith);
-        good = record { sizes = g .sizes; young = bump-fit (h .size) (h .young) a pos (ltb-true a (h .size .n - h .young .cursor) e) (g .young); old = g .old };
-        same-size = refl;
-        roots-valid = v;
-        roots-length = refl;
-      })
-      go pos false e = collect-told M h roots g a pos v
+      go : 0 < a → (t : Bool) → ltb a (h .size .n - h .young .cursor) ≡ t → Holds (λ r. Told M h roots r × (M → Kind h roots a r)) (elim t [ true ↦ ok (stayed h roots a) | false ↦ collectAndAlloc h roots a ])
+      go pos true e = such (
+        record {
+          good = record { sizes = g .sizes; young = bump-fit (h .size) (h .young) a pos (ltb-true a (h .size .n - h .young .cursor) e) (g .young); old = g .old };
+          same-size = refl;
+          roots-valid = v;
+          roots-length = refl;
+        },
+        λ _. inl (ltb-true a (h .size .n - h .young .cursor) e, refl),
+      )
+      go pos false e = weaken (collect-told M h roots g a pos v) (λ r t. (t .0, λ on. inr (ltb-false a (h .size .n - h .young .cursor) e, t .1, t .2 on)))
 
   out-young-fit : (y : Nursery) (i : ℕ) → FitBarrier (y .bar) → Holds FitBarrier (outYoung y i)
   unfolding outYoung

@@ -108,6 +108,7 @@ pub record Swapped (M : Type 0) (z : Sizes) (ms : List (Ptr × ℕ)) (g r : Nurs
   pub cursor : r .0 .cursor ≡ g .0 .cursor
   pub colls : r .0 .colls ≡ g .0 .colls
   pub proms : r .0 .proms ≡ g .0 .proms
+  pub lens : r .0 .lens ≡ g .0 .lens
   pub below : take (g .0 .cursor) (r .0 .cells) ≡ map (swapped ms) (take (g .0 .cursor) (g .0 .cells))
   pub above : drop (g .0 .cursor) (r .0 .cells) ≡ drop (g .0 .cursor) (g .0 .cells)
   pub slots : r .1 .slots ≡ map (map (swapped ms)) (g .1 .slots)
@@ -181,6 +182,7 @@ module _ (M : Type 0) (z : Sizes) where
     cursor = q .cursor ∙ p .nursery .cursor;
     colls = q .colls ∙ p .nursery .colls;
     proms = q .proms ∙ p .nursery .proms;
+    lens = q .lens ∙ p .nursery .lens;
     below = (rw (p .nursery .cursor) at (q .below)) ∙ ap (map (swapped ms)) here ∙ map-swapped m ms (take c cells);
     above = (rw (p .nursery .cursor) at (q .above)) ∙ ap (drop c) (p .nursery .cells) ∙ drop-at (map (swapCell m) (take c cells)) (drop c cells) c long;
     slots = q .slots ∙ ap (map (map (swapped ms))) (p .slots) ∙ map-map-swapped m ms (g .1 .slots);
@@ -208,6 +210,7 @@ module _ (M : Type 0) (z : Sizes) where
     cursor = refl;
     colls = refl;
     proms = refl;
+    lens = refl;
     below = sym (map-none (take (g .0 .cursor) (g .0 .cells)));
     above = refl;
     slots = sym (map-map-none (g .1 .slots));

@@ -1,5 +1,5 @@
 -- An alloc that collects the nursery does what demand 3 asks of it, and leaves a fit heap.
-use mathlib.Core.Path.{_≡_, refl, sym, ap, subst, _∙_}
+use mathlib.Core.Path.{_≡_, refl, sym, ap, subst, subst₂, _∙_}
 use mathlib.Core.Bool.{Bool, true, false}
 use mathlib.Core.Logic.{_⊎_, _≢_, inl, inr, ⊎-elim}
 use mathlib.Core.List.{List, [], map, append-nil, List·Memᴰ, List·Memᴰ·cases-cons, List·Memᴰ·not-nil}
@@ -20,17 +20,17 @@ use Rattle.model.specs.Elder.{room, placeNew, Moving, moveOne, movesOf}
 use Rattle.model.specs.Collector.{Allocation, allocAgain, collectAndAlloc}
 use Rattle.model.specs.Demand.{YoungStart, YoungLeads, Given, AllChanged, sources, Collected}
 use Rattle.theorems.specs.Fit.{FitNursery, Fit}
-use borrow.Author.Tests.{eqb-true, ltb-true, leb-true}
+use borrow.Author.Tests.{eqb-true, ltb-true, ltb-false, leb-true}
 use Rattle.theorems.proofs.Lists.{eqb-same, keepIf-in, keepIf-out}
 use Rattle.theorems.proofs.Tiles.{cursor-below, zeros-tiled, allocation-added}
 use Rattle.theorems.proofs.Masks.{low-mask}
 use Rattle.theorems.proofs.Members.{young-exact, young-few, blank-no-ref}
 use Rattle.theorems.proofs.Sort.{sort-in, sort-out, sort-once, sort-sorted, keepIf-once}
-use Rattle.theorems.proofs.Res.{bind, bind′, asked, both}
+use Rattle.theorems.proofs.Res.{bind, asked, weaken, both}
 use Rattle.theorems.proofs.Barrier.{absent-fit, low-byte, tally-pos}
-use Rattle.theorems.proofs.Contents.{Valid, set-from, map-in, map-out, flat-map, part-out}
-use Rattle.theorems.proofs.Elder.{Good, placeNew-good, good-fit}
-use Rattle.theorems.proofs.Moves.{put-is, Made, moves}
+use Rattle.theorems.proofs.Contents.{Valid, valid-blank, set-from, map-in, map-out, flat-map, part-out}
+use Rattle.theorems.proofs.Elder.{Good, Room, room-is, put-good, good-fit}
+use Rattle.theorems.proofs.Moves.{PutBy, put-is, Made, moves}
 use Rattle.theorems.proofs.Change.{swapped, Young, all-changed, left, Swapped, swaps}
 
 -- fit, and the elder's counts cover its cells, if M
@@ -102,17 +102,33 @@ pub record Again (M : Type 0) (z : Sizes) (a : ℕ) (y : Nursery) (e : Elder) (g
   pub proms : g .1 .proms ≡ y .proms
   pub cells : g .1 .cells ≡ y .cells
   pub old-colls : g .2 .colls ≡ e .colls
-  pub given : Given a (g .0) (e .slots) (g .2 .slots)
+  pub given : Given z a (g .0) (g .1) (e .slots) (g .2 .slots)
   pub from : (p : Ptr) → List·Memᴰ (ref p) (flat (g .2 .slots)) → List·Memᴰ (ref p) (flat (e .slots))
 
-again : (M : Type 0) (z : Sizes) (a : ℕ) (y : Nursery) (e : Elder) → 0 < a → FitNursery z y → Good M z e → Holds (Again M z a y e) (allocAgain z a y e)
+-- in an emptied nursery
+again : (M : Type 0) (z : Sizes) (a : ℕ) (y : Nursery) (e : Elder) → y .cursor ≡ 0 → y .lens ≡ replicate (z .n) 0 → 0 < a → FitNursery z y → Good M z e → Holds (Again M z a y e) (allocAgain z a y e)
 unfolding allocAgain bump placeNew whole
-again M z a y e pos fy ge = go (ltb a (z .n - y .cursor)) refl
+again M z a y e first none-yet pos fy ge = go (ltb a (z .n - y .cursor)) refl
   where
     go : (t : Bool) → ltb a (z .n - y .cursor) ≡ t → Holds (Again M z a y e) (elim t [ true ↦ ok (whole 0 (y .cursor), bump y a, e) | false ↦ placeNew z a e >>= λ r. ok (whole 1 (r .0), y, r .1) ])
-    go true q = such (record { young = bump-fit z y a pos (ltb-true a (z .n - y .cursor) q) fy; old = ge; colls = refl; proms = refl; cells = refl; old-colls = refl; given = inl (refl, refl); from = λ p m. m })
+    go true q =
+        let l : a < z .n - y .cursor = ltb-true a (z .n - y .cursor) q in
+        such (record {
+          young = bump-fit z y a pos l fy;
+          old = ge;
+          colls = refl;
+          proms = refl;
+          cells = refl;
+          old-colls = refl;
+          given = inl (omega arith, ap (whole 0) first, omega arith, rw (none-yet, first), refl);
+          from = λ p m. m;
+        })
     go false q =
-        bind _ (both (placeNew-good z a e ge) (bind′ (room z a e) _ (λ _ _. put-is (replicate a blank) e))) (λ r g.
+        bind {P = λ r. Good M z (r .1) × PutBy (replicate a blank) e r × Room z a e} _
+        (bind _ (room-is z a e ge) (λ _ o.
+        weaken (both (put-good z (replicate a blank) e (valid-blank a) ge (rw length-replicate o)) (put-is (replicate a blank) e)) (λ r g.
+        (g .0, g .1, o))))
+        (λ r g.
         such (record {
           young = fy;
           old = g .0;
@@ -120,13 +136,12 @@ again M z a y e pos fy ge = go (ltb a (z .n - y .cursor)) refl
           proms = refl;
           cells = refl;
           old-colls = g .1 .colls;
-          given = inr (ap (whole 1) (g .1 .base), g .1 .slots);
+          given = inr (omega (arith, ltb-false a (z .n - y .cursor) q), ap (whole 1) (g .1 .base), omega (arith, g .2 .base, ge .slots), first, none-yet, g .1 .slots);
           from = λ p m. ⊎-elim (λ k. k) (λ k. absurd (blank-only a p k)) (set-from (e .slots) (held (e .slots)) (replicate a blank) (rw (g .1 .slots) at m));
         }))
 
--- an answer of alloc
-pub record Told (M : Type 0) (h : Heap) (roots : List Cell) (a : ℕ) (r : Allocation) : Type 0 where
-  pub collected : M → r .collections ≡ 1 → Collected h roots a r
+-- what an answer of alloc leaves
+pub record Told (M : Type 0) (h : Heap) (roots : List Cell) (r : Allocation) : Type 0 where
   pub good : GoodHeap M (r .heap)
   pub same-size : r .heap .size ≡ h .size
   pub roots-valid : Valid (r .roots)
@@ -163,7 +178,7 @@ module _ (M : Type 0) (h : Heap) (roots : List Cell) (fit : GoodHeap M h) where
   part-member p q l m e = next l (e, part-out (getD (h .young .lens) (q .base) 0) (q .base) (h .young .cells) blank m)
 
   -- what the steps of the call come to
-  module _ (a : ℕ) (c : List Ptr × Nursery) (cb : CollectedBy (h .size) (h .young) members c) (v : Moving) (mv : Made h roots (fit .young) M (survivors members) [] v)
+  module _ (a : ℕ) (c : List Ptr × Nursery) (cb : CollectedBy (h .size) (h .young) members c) (v : Moving) (mv : Made h roots (fit .young) M (survivors members) false [] v)
       (g : Ptr × Nursery × Elder) (ag : Again M (h .size) a (c .1) (v .elder) g) (r : Nursery × Elder × List Cell) (sw : Swapped M (h .size) (movesOf (v .steps)) (g .1, g .2, roots) r) where
     abbrev ms : List (Ptr × ℕ)
     ms = movesOf (v .steps)
@@ -237,7 +252,7 @@ module _ (M : Type 0) (h : Heap) (roots : List Cell) (fit : GoodHeap M h) where
       met = v .elder;
       steps = mv .chain;
       given = g .2 .slots;
-      new = ag .given;
+      new = subst₂ (λ (n : ℕ) (l : List ℕ). Given (h .size) a (g .0) (record { cursor = n; colls = r .0 .colls; proms = r .0 .proms; bar = r .0 .bar; lens = l; cells = r .0 .cells }) (v .elder .slots) (g .2 .slots)) (sym (sw .cursor)) (sym (sw .lens)) (ag .given);
       elder-changed = elder-changed;
       roots-changed = roots-changed;
       nursery-changed = nursery-changed;
@@ -247,20 +262,31 @@ module _ (M : Type 0) (h : Heap) (roots : List Cell) (fit : GoodHeap M h) where
       elder-collections = sw .old-colls ∙ ag .old-colls ∙ mv .colls;
     }
 
-  moves-of : (ps : List Ptr) → ps ≡ members → Holds (Made h roots (fit .young) M (survivors members) []) (each (moveOne (h .size) (h .young) roots (masks (h .young .bar))) (survivors ps) (record { elder = h .old; steps = [] }))
+  emptied-cursor : (c : List Ptr × Nursery) → CollectedBy (h .size) (h .young) members c → c .1 .cursor ≡ 0
+  unfolding emptied
+  emptied-cursor c cb = ap (λ (y : Nursery). y .cursor) (cb .after)
+
+  emptied-lens : (c : List Ptr × Nursery) → CollectedBy (h .size) (h .young) members c → c .1 .lens ≡ replicate (h .size .n) 0
+  unfolding emptied
+  emptied-lens c cb = ap (λ (y : Nursery). y .lens) (cb .after) ∙ ap (λ (n : ℕ). replicate n 0) (fit .young .lens)
+
+  moves-of : (ps : List Ptr) → ps ≡ members → Holds (Made h roots (fit .young) M (survivors members) false []) (each (moveOne (h .size) (h .young) roots (masks (h .young .bar))) (survivors ps) (record { elder = h .old; steps = [] }))
   moves-of ps e = rw e (moves h roots (fit .young) M (survivors members) (fit .old))
 
-  pub collect-told : (a : ℕ) → 0 < a → Valid roots → Holds (Told M h roots a) (collectAndAlloc h roots a)
+  pub collect-told : (a : ℕ) → 0 < a → Valid roots → Holds (λ r. Told M h roots r × (r .collections ≡ 1) × (M → Collected h roots a r)) (collectAndAlloc h roots a)
   unfolding collectAndAlloc answered
   collect-told a pos valid =
       bind _ (collect-young (h .size) (h .young) roots (masks (h .old .bar)) (fit .young)) (λ c cb.
       bind _ (moves-of (c .0) (cb .members)) (λ v mv.
-      bind _ (again M (h .size) a (c .1) (v .elder) pos (cb .fit) (mv .good)) (λ g ag.
+      bind _ (again M (h .size) a (c .1) (v .elder) (emptied-cursor c cb) (emptied-lens c cb) pos (cb .fit) (mv .good)) (λ g ag.
       bind _ (swaps M (h .size) (movesOf (v .steps)) (g .1, g .2, roots) (ag .young) (ag .old) valid) (λ r sw.
-      such (record {
-        collected = λ on _. collected a c cb v mv g ag r sw on;
-        good = record { sizes = fit .sizes; young = sw .young; old = sw .old };
-        same-size = refl;
-        roots-valid = sw .roots-valid;
-        roots-length = ap length (sw .roots) ∙ length-map roots (swapped (movesOf (v .steps)));
-      })))))
+      such (
+        record {
+          good = record { sizes = fit .sizes; young = sw .young; old = sw .old };
+          same-size = refl;
+          roots-valid = sw .roots-valid;
+          roots-length = ap length (sw .roots) ∙ length-map roots (swapped (movesOf (v .steps)));
+        },
+        refl,
+        collected a c cb v mv g ag r sw,
+      )))))

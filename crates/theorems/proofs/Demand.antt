@@ -1,6 +1,7 @@
 -- Demand 3 holds of every list of calls from a fresh heap.
 use mathlib.Core.Path.{_≡_, refl, sym, ap, subst, _∙_}
 use mathlib.Core.Bool.{Bool, true, false, not, _&&_}
+use mathlib.Core.Logic.{⊎-map}
 use mathlib.Core.List.{List, [], _∷_, map, List·Memᴰ·not-nil}
 use Prim.Native.Nat.{ℕ, zero, suc, _+_, _%_, _≤_, zero-le}
 use native.Mathlib.Omega.{arith}
@@ -8,14 +9,15 @@ use lib.Dec.{eqb}
 use lib.ListN.{length, getD, replicate}
 use Rattle.model.specs.Lists.{consIf, keepIf, flat, sum}
 use Rattle.model.specs.Res.{Res, ok, refuse, _>>=_, Holds, such, none}
-use Rattle.model.specs.Records.{Cell, plain, ref, wholeCells}
+use Rattle.model.specs.Records.{whole, cellWords, Cell, plain, ref, wholeCells}
 use Rattle.model.specs.Barrier.{cache}
 use Rattle.model.specs.Heap.{Elder, Sizes, Heap, inBounds, fresh}
 use Rattle.model.specs.Image.{encode, decode, sized, formed}
+use Rattle.model.specs.Nursery.{bump}
 use Rattle.model.specs.Elder.{sweepsOf}
 use Rattle.model.specs.Collector.{Allocation, fourCounts}
 use Rattle.model.specs.Calls.{cellsIn, opened, allocOn, Outcome, allocated, left, Call, allocs, reads, writes, call}
-use Rattle.model.specs.Demand.{CollectedCall, Told as ToldCall, History, nothing, next, pointsAt, Counted, AllTold, Demand}
+use Rattle.model.specs.Demand.{Collected, CollectedCall, StayedCall, Claim, History, nothing, next, pointsAt, Counted, AllClaims, Demand, Demand3}
 use Rattle.theorems.specs.Kept.{events, run}
 use Rattle.theorems.proofs.Res.{holds-at}
 use borrow.Author.Tests.{eqb-true}
@@ -23,8 +25,8 @@ use Rattle.theorems.proofs.Barrier.{bit, crosses, tally}
 use Rattle.theorems.proofs.Contents.{valid-all}
 use Rattle.theorems.proofs.Elder.{Good}
 use Rattle.theorems.proofs.Collect.{GoodHeap, good-heap-fit, Told}
-use Rattle.theorems.proofs.Calls.{Left}
-use Rattle.theorems.proofs.Cells.{words-in}
+use Rattle.theorems.proofs.Calls.{stayed, Kind, Left}
+use Rattle.theorems.proofs.Cells.{words-in, whole-back}
 use Rattle.theorems.proofs.Image.{decode-encode, fresh-fit}
 use Rattle.theorems.proofs.Kept.{Imaged, imaged, sizes-of, refused-ok, alloc-on, write-on}
 
@@ -91,7 +93,7 @@ module _ (z : Sizes) (w : List ℕ) (at : Reached z w) where
   size-kept : {x : Sizes} → x ≡ decode w .size → x ≡ z
   size-kept e = e ∙ sizes-of w ∙ at .imaged .sizes
 
-  after-alloc : (roots : List ℕ) (a : ℕ) {m : Res Allocation} → Holds (λ r. Told (Unit {0}) (decode w) (cellsIn roots) a r × (wholeCells roots ≡ true)) m → Reached z (allocated w roots m .image)
+  after-alloc : (roots : List ℕ) (a : ℕ) {m : Res Allocation} → Holds (λ r. Told (Unit {0}) (decode w) (cellsIn roots) r × (Unit {0} → Kind (decode w) (cellsIn roots) a r) × (wholeCells roots ≡ true)) m → Reached z (allocated w roots m .image)
   unfolding allocated
   after-alloc roots a none = at
   after-alloc roots a (such {a = r} t) = reached z (r .heap) (size-kept (t .0 .same-size)) (t .0 .good)
@@ -107,53 +109,77 @@ module _ (z : Sizes) (w : List ℕ) (at : Reached z w) where
   after (reads p) = at
   after (writes p v) = after-write (write-on (Unit {0}) w good-once-asked p v)
 
-  -- an answered alloc with 1 for the nursery's collections
-  told-alloc : (roots : List ℕ) (scratch a : ℕ) (m : Res Allocation) → (opened w >>= λ h. allocOn h roots scratch a) ≡ m
-      → (l : List ℕ) → allocated w roots m .answer ≡ ok l → getD l 3 0 ≡ 1 → CollectedCall w roots scratch a (allocated w roots m) l
-  unfolding allocated fourCounts
-  told-alloc roots scratch a (refuse q) e l f o = absurd (refused-ok f)
-  told-alloc roots scratch a (ok r) e l f o = record {
-    result = r;
-    is = e;
-    did = t .collected tt one;
-    image = decode-encode (r .heap) (good-heap-fit (t .good));
-    roots-after = words-in (r .roots) (valid-all (r .roots) (t .roots-valid));
-    answer = sym same ∙ ap (λ (n : ℕ). r .ptr .heap ∷ r .ptr .base ∷ r .ptr .off ∷ n ∷ length (r .members) ∷ length (sweepsOf (r .steps)) ∷ sum (map length (sweepsOf (r .steps))) ∷ []) one;
-  }
-    where
-      t : Told (Unit {0}) (decode w) (cellsIn roots) a r
-      t = holds-at (alloc-on (Unit {0}) w good-once-asked roots scratch a) e .0
+  -- an answered alloc
+  module _ (roots : List ℕ) (scratch a : ℕ) (r : Allocation) (e : (opened w >>= λ h. allocOn h roots scratch a) ≡ ok r) where
+    is-told : Told (Unit {0}) (decode w) (cellsIn roots) r × (Unit {0} → Kind (decode w) (cellsIn roots) a r) × (wholeCells roots ≡ true)
+    is-told = holds-at (alloc-on (Unit {0}) w good-once-asked roots scratch a) e
 
-      same : r .ptr .heap ∷ r .ptr .base ∷ r .ptr .off ∷ r .collections ∷ length (r .members) ∷ length (sweepsOf (r .steps)) ∷ sum (map length (sweepsOf (r .steps))) ∷ [] ≡ l
-      same = cc
+    image-is : decode (encode (r .heap)) ≡ r .heap
+    image-is = decode-encode (r .heap) (good-heap-fit (is-told .0 .good))
 
-      one : r .collections ≡ 1
-      one = ap (λ (x : List ℕ). getD x 3 0) same ∙ o
+    numbers : List ℕ
+    numbers = r .ptr .heap ∷ r .ptr .base ∷ r .ptr .off ∷ r .collections ∷ length (r .members) ∷ length (sweepsOf (r .steps)) ∷ sum (map length (sweepsOf (r .steps))) ∷ []
 
-  told : (c : Call) → ToldCall w c (call c w)
+    collected-call : (l : List ℕ) → numbers ≡ l → r .collections ≡ 1 → Collected (decode w) (cellsIn roots) a r → CollectedCall w roots scratch a (allocated w roots (ok r)) l
+    unfolding allocated numbers
+    collected-call l f one did = record {
+      result = r;
+      is = e;
+      did = did;
+      image = image-is;
+      roots-after = words-in (r .roots) (valid-all (r .roots) (is-told .0 .roots-valid));
+      answer = sym f ∙ ap (λ (n : ℕ). r .ptr .heap ∷ r .ptr .base ∷ r .ptr .off ∷ n ∷ length (r .members) ∷ length (sweepsOf (r .steps)) ∷ sum (map length (sweepsOf (r .steps))) ∷ []) one;
+    }
+
+    stayed-call : (l : List ℕ) → numbers ≡ l → r ≡ stayed (decode w) (cellsIn roots) a → StayedCall w roots a (allocated w roots (ok r)) l
+    unfolding allocated numbers stayed bump whole sweepsOf sum
+    stayed-call l f s = record {
+      answer = sym f ∙ ap numbersOf s;
+      cursor = now (λ (h : Heap). h .young .cursor);
+      lens = now (λ (h : Heap). h .young .lens);
+      cells = now (λ (h : Heap). h .young .cells);
+      collections = now (λ (h : Heap). h .young .colls);
+      promotions = now (λ (h : Heap). h .young .proms);
+      barrier = now (λ (h : Heap). h .young .bar);
+      elder = now (λ (h : Heap). h .old);
+      roots-kept = ap (λ (x : Allocation). cellWords (x .roots)) s ∙ whole-back roots (is-told .2);
+    }
+      where
+        now : {A : Type 0} (f : Heap → A) → f (decode (encode (r .heap))) ≡ f (stayed (decode w) (cellsIn roots) a .heap)
+        now f = ap f image-is ∙ ap (λ (x : Allocation). f (x .heap)) s
+
+        numbersOf : Allocation → List ℕ
+        numbersOf x = x .ptr .heap ∷ x .ptr .base ∷ x .ptr .off ∷ x .collections ∷ length (x .members) ∷ length (sweepsOf (x .steps)) ∷ sum (map length (sweepsOf (x .steps))) ∷ []
+
+  claim-alloc : (roots : List ℕ) (scratch a : ℕ) (m : Res Allocation) → (opened w >>= λ h. allocOn h roots scratch a) ≡ m → Claim w (allocs roots scratch a) (allocated w roots m)
+  unfolding allocated fourCounts numbers
+  claim-alloc roots scratch a (refuse q) e l f = absurd (refused-ok f)
+  claim-alloc roots scratch a (ok r) e l f = ⊎-map (λ k. (k .0, stayed-call roots scratch a r e l (cc) (k .1))) (λ k. (k .0, collected-call roots scratch a r e l (cc) (k .1) (k .2))) (is-told roots scratch a r e .1 tt)
+
+  claim : (c : Call) → Claim w c (call c w)
   unfolding call
-  told (allocs roots scratch a) = told-alloc roots scratch a (opened w >>= λ h. allocOn h roots scratch a) refl
-  told (reads p) = tt
-  told (writes p v) = tt
+  claim (allocs roots scratch a) = claim-alloc roots scratch a (opened w >>= λ h. allocOn h roots scratch a) refl
+  claim (reads p) = tt
+  claim (writes p v) = tt
 
 -- over the list
 
 record Done (z : Sizes) (w : List ℕ) (l : List (Call × Outcome)) (v : List ℕ) : Type 0 where
   end : Reached z v
-  told : AllTold w l
+  claims : AllClaims w l
 
 along : (z : Sizes) {w v : List ℕ} {l : List (Call × Outcome)} → Reached z w → History w l v → Done z w l v
-along z at nothing = record { end = at; told = tt }
+along z at nothing = record { end = at; claims = tt }
 along z {w} at (next {v = v} {l = l} c o e h) =
     let d = along z (subst (λ (x : Outcome). Reached z (x .image)) (sym e) (after z w at c)) h in
-    record { end = d .end; told = (subst (λ (x : Outcome). ToldCall w c x) (sym e) (told z w at c), d .told) }
+    record { end = d .end; claims = (subst (λ (x : Outcome). Claim w c x) (sym e) (claim z w at c), d .claims) }
 
-pub demand-3 : (z : Sizes) → inBounds z ≡ true → (l : List (Call × Outcome)) (v : List ℕ) → History (encode (fresh z)) l v → Demand z l v
+pub demand-3 : Demand3
 demand-3 z b l v h =
     let d = along z (fresh-reached z b) h in
     record {
       counts = counted (decode v .size) (decode v .old) (d .end .good .old);
-      allocs-told = d .told;
+      allocs-claimed = d .claims;
       still-sized = d .end .imaged .is-sized;
       still-formed = d .end .imaged .is-formed;
       same-sizes = d .end .imaged .sizes;

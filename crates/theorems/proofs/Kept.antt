@@ -20,7 +20,7 @@ use Rattle.theorems.proofs.Cells.{words-length, whole-words, whole-leng
 use Rattle.theorems.proofs.Contents.{valid-all, all-valid}
 use Rattle.theorems.proofs.Image.{decode-encode, encode-sized, encode-formed, decode-fit, fresh-fit}
 use Rattle.theorems.proofs.Collect.{GoodHeap, good-heap-fit, Told}
-use Rattle.theorems.proofs.Calls.{alloc-told, Left, write-left, report-left}
+use Rattle.theorems.proofs.Calls.{Kind, alloc-told, Left, write-left, report-left}
 
 -- a fit heap, with nothing known of its counts
 pub fit-good : {h : Heap} → Fit h → GoodHeap ⊥ h
@@ -58,13 +58,13 @@ value-valid (a ∷ b ∷ o ∷ x) e l =
 
 -- the calls on a good heap
 module _ (M : Type 0) (h : Heap) where
-  alloc-from : (roots : List ℕ) (scratch a : ℕ) → GoodHeap M h → Holds (λ r. Told M h (cellsIn roots) a r × (wholeCells roots ≡ true)) (allocOn h roots scratch a)
+  alloc-from : (roots : List ℕ) (scratch a : ℕ) → GoodHeap M h → Holds (λ r. Told M h (cellsIn roots) r × (M → Kind h (cellsIn roots) a r) × (wholeCells roots ≡ true)) (allocOn h roots scratch a)
   unfolding allocOn rootsGood
   alloc-from roots scratch a g =
       asked 3 (wholeCells roots && leb (length roots) (3 * 4096)) _ (λ r.
       asked 4 (leb (scratchLength (h .size) (length roots / 3)) scratch) _ (λ _.
       let v = and-left (wholeCells roots) (leb (length roots) (3 * 4096)) r in
-      weaken (alloc-told M h (cellsIn roots) a g (all-valid (cellsIn roots) (whole-valid roots v))) (λ x t. (t, v))))
+      weaken (alloc-told M h (cellsIn roots) a g (all-valid (cellsIn roots) (whole-valid roots v))) (λ x t. (t .0, t .1, v))))
 
   write-from : (p : Ptr) (value : List ℕ) → GoodHeap M h → Holds (Left M h) (writeOn h p value)
   unfolding writeOn valueGood
@@ -78,13 +78,13 @@ opened-is w = asked 1 (sized w) _ (λ s. asked 2 (formed w) _ (λ f. such (refl,
 
 -- the calls on words w, whose heap is good once 1 and 2 got their yes
 module _ (M : Type 0) (w : List ℕ) (good : sized w ≡ true → formed w ≡ true → GoodHeap M (decode w)) where
-  pub alloc-on : (roots : List ℕ) (scratch a : ℕ) → Holds (λ r. Told M (decode w) (cellsIn roots) a r × (wholeCells roots ≡ true)) (opened w >>= λ h. allocOn h roots scratch a)
+  pub alloc-on : (roots : List ℕ) (scratch a : ℕ) → Holds (λ r. Told M (decode w) (cellsIn roots) r × (M → Kind (decode w) (cellsIn roots) a r) × (wholeCells roots ≡ true)) (opened w >>= λ h. allocOn h roots scratch a)
   alloc-on roots scratch a = bind (λ h. allocOn h roots scratch a) (opened-is w) (λ h o. on h (o .0) (good (o .1) (o .2)))
     where
-      here : GoodHeap M (decode w) → Holds (λ r. Told M (decode w) (cellsIn roots) a r × (wholeCells roots ≡ true)) (allocOn (decode w) roots scratch a)
+      here : GoodHeap M (decode w) → Holds (λ r. Told M (decode w) (cellsIn roots) r × (M → Kind (decode w) (cellsIn roots) a r) × (wholeCells roots ≡ true)) (allocOn (decode w) roots scratch a)
       here g = alloc-from M (decode w) roots scratch a g
 
-      on : (h : Heap) → h ≡ decode w → GoodHeap M (decode w) → Holds (λ r. Told M (decode w) (cellsIn roots) a r × (wholeCells roots ≡ true)) (allocOn h roots scratch a)
+      on : (h : Heap) → h ≡ decode w → GoodHeap M (decode w) → Holds (λ r. Told M (decode w) (cellsIn roots) r × (M → Kind (decode w) (cellsIn roots) a r) × (wholeCells roots ≡ true)) (allocOn h roots scratch a)
       on h e g = rw e (here g)
 
   pub write-on : (p : Ptr) (value : List ℕ) → Holds (Left M (decode w)) (opened w >>= λ h. writeOn h p value)
@@ -110,7 +110,7 @@ refused-ok e = let z : _≡_ {A = ℕ} 0 1 = cc in omega arith
 same-sizes : (w : List ℕ) {h : Heap} → h .size ≡ decode w .size → Fit h → sizesOf (encode h) ≡ sizesOf w
 same-sizes w {h} e f = imaged h f .sizes ∙ e ∙ sizes-of w
 
-alloc-kept : (w roots : List ℕ) {m : Res Allocation} (a : ℕ) → Holds (λ r. Told ⊥ (decode w) (cellsIn roots) a r × (wholeCells roots ≡ true)) m → Kept w roots (allocated w roots m)
+alloc-kept : (w roots : List ℕ) {m : Res Allocation} (a : ℕ) → Holds (λ r. Told ⊥ (decode w) (cellsIn roots) r × (⊥ → Kind (decode w) (cellsIn roots) a r) × (wholeCells roots ≡ true)) m → Kept w roots (allocated w roots m)
 unfolding allocated
 alloc-kept w roots a none = record { refused = λ q e. (refl, refl); answered = λ l e. absurd (refused-ok e) }
 alloc-kept w roots a (such {a = r} t) =
@@ -122,7 +122,7 @@ alloc-kept w roots a (such {a = r} t) =
         imaged (r .heap) f .is-formed,
         same-sizes w (t .0 .same-size) f,
         whole-words (r .roots) (valid-all (r .roots) (t .0 .roots-valid)),
-        words-length (r .roots) ∙ ap (λ (n : ℕ). n * 3) (t .0 .roots-length) ∙ whole-length roots (t .1),
+        words-length (r .roots) ∙ ap (λ (n : ℕ). n * 3) (t .0 .roots-length) ∙ whole-length roots (t .2),
       );
     }
 

@@ -3,7 +3,7 @@ use mathlib.Core.Path.{_≡_, refl, sym, ap, _∙_}
 use mathlib.Core.Bool.{Bool, true, false}
 use mathlib.Core.Logic.{_⊎_, inl, inr, ⊎-elim}
 use mathlib.Core.List.{List, [], _∷_, _++_, map-append, append-assoc, append-nil, List·Memᴰ, List·Memᴰ·head, Memᴰ·append-right}
-use Prim.Native.Nat.{ℕ, zero, suc, _+_, _-_, min, _≤_}
+use Prim.Native.Nat.{ℕ, zero, suc, _+_, _-_, min, _≤_, _<_}
 use native.Mathlib.Nat.{zero-add, add-zero}
 use native.Mathlib.Omega.{arith}
 use lib.Dec.{ltb, leb}
@@ -19,7 +19,7 @@ use Rattle.model.specs.Elder.{oldMembers, keeps, keep, countDropped, sweep, col
 use Rattle.model.specs.Demand.{OldStart, OldLeads, Copied, Swept, Chain, sources}
 use Rattle.theorems.specs.Fit.{FitNursery, FitElder}
 use Rattle.theorems.proofs.Reach.{mem-true, mem-has}
-use borrow.Author.Tests.{ltb-true, leb-true}
+use borrow.Author.Tests.{ltb-true, leb-true, leb-false}
 use Rattle.theorems.proofs.Lists.{take-in, drop-in}
 use Rattle.theorems.proofs.Tiles.{cursor-le, allocation-inside}
 use Rattle.theorems.proofs.Members.{samePtr-eq, samePtr-refl, old-exact, old-few}
@@ -77,10 +77,10 @@ unfolding sources
 sources-append l l′ = map-append (λ (m : Ptr × ℕ). m .0) l l′
 
 module _ (h : Heap) (roots : List Cell) where
-  chain-append : (e : Elder) (l : List Step) (x : Elder) (l′ : List Step) (y : Elder) → Chain h roots e l x → Chain h roots x l′ y → Chain h roots e (l ++ l′) y
-  chain-append e [] x l′ y c d = rw c d
-  chain-append e (move p b u v ∷ l) x l′ y c d = (c .0, c .1, chain-append v l x l′ y (c .2) d)
-  chain-append e (sweeping ps u v ∷ l) x l′ y c d = (c .0, c .1, chain-append v l x l′ y (c .2) d)
+  chain-append : (s : Bool) (e : Elder) (l : List Step) (s′ : Bool) (x : Elder) (l′ : List Step) (s″ : Bool) (y : Elder) → Chain h roots s e l s′ x → Chain h roots s′ x l′ s″ y → Chain h roots s e (l ++ l′) s″ y
+  chain-append s e [] s′ x l′ s″ y c d = rw (c .0, c .1) d
+  chain-append s e (move p b u v ∷ l) s′ x l′ s″ y c d = (c .0, c .1, c .2, chain-append false v l s′ x l′ s″ y (c .3) d)
+  chain-append s e (sweeping ps u v ∷ l) s′ x l′ s″ y c d = (c .0, c .1, c .2, chain-append true v l s′ x l′ s″ y (c .3) d)
 
   abbrev ms : List ℕ
   ms = masks (h .young .bar)
@@ -140,14 +140,20 @@ module _ (h : Heap) (roots : List Cell) where
 
     -- the moves made, and those to make
     module _ (M : Type 0) (own : List Ptr) where
-      pub record Made (rest : List Ptr) (v : Moving) : Type 0 where
+      pub record Made (swept : Bool) (rest : List Ptr) (v : Moving) : Type 0 where
         pub good : Good M (h .size) (v .elder)
         pub done : sources (movesOf (v .steps)) ++ rest ≡ own
-        pub chain : Chain h roots (h .old) (v .steps) (v .elder)
+        pub chain : Chain h roots false (h .old) (v .steps) swept (v .elder)
         pub colls : v .elder .colls ≡ h .old .colls + length (sweepsOf (v .steps))
         pub from : (c : Cell) → List·Memᴰ c (flat (v .elder .slots)) → List·Memᴰ c (flat (h .old .slots)) ⊎ ((q : Ptr) × List·Memᴰ q own × List·Memᴰ c (part (h .young) (q .base)))
 
-      collect-made : (rest : List Ptr) (v : Moving) → Made rest v → Holds (Made rest) (collectIfFull (h .size) roots ms v)
+      -- a collection has just been made, or none is due
+      record Ready (rest : List Ptr) (v : Moving) : Type 0 where
+        swept-before : Bool
+        made : Made swept-before rest v
+        due : (swept-before ≡ true) ⊎ (held (v .elder .slots) < h .size .t)
+
+      collect-made : (rest : List Ptr) (v : Moving) → Made false rest v → Holds (Ready rest) (collectIfFull (h .size) roots ms v)
       unfolding collectIfFull collectOld movesOf sweepsOf
       collect-made rest v k = go (leb (h .size .t) (held (v .elder .slots))) refl
         where
@@ -157,44 +163,44 @@ module _ (h : Heap) (roots : List Cell) where
           after : Elder → Moving
           after e = record { elder = e; steps = v .steps ++ sweeping ps (v .elder) e ∷ [] }
 
-          made : h .size .t ≤ held (v .elder .slots) → (e : Elder) → Good M (h .size) e → SweptBy ps (v .elder) e → Made rest (after e)
+          made : h .size .t ≤ held (v .elder .slots) → (e : Elder) → Good M (h .size) e → SweptBy ps (v .elder) e → Made true rest (after e)
           made f e g q = record {
             good = g;
             done = rw (movesOf-append (v .steps) (sweeping ps (v .elder) e ∷ []), append-nil) (k .done);
-            chain = chain-append (h .old) (v .steps) (v .elder) (sweeping ps (v .elder) e ∷ []) e (k .chain) (refl, swept (v .elder) e (good-fit (k .good)) f q, refl);
+            chain = chain-append false (h .old) (v .steps) false (v .elder) (sweeping ps (v .elder) e ∷ []) true e (k .chain) (refl, refl, swept (v .elder) e (good-fit (k .good)) f q, (refl, refl));
             colls = rw (sweepsOf-append (v .steps) (sweeping ps (v .elder) e ∷ []), length-append) (omega (arith, q .colls, k .colls));
             from = λ c m. k .from c (keep-from ps 0 (v .elder .slots) c (rw (q .slots) at m));
           }
 
-          go : (t : Bool) → leb (h .size .t) (held (v .elder .slots)) ≡ t → Holds (Made rest) (elim t [ true ↦ (collectOld (v .elder) roots ms >>= λ r. ok (record { elder = r .1; steps = v .steps ++ sweeping (r .0) (v .elder) (r .1) ∷ [] })) | false ↦ ok v ])
+          go : (t : Bool) → leb (h .size .t) (held (v .elder .slots)) ≡ t → Holds (Ready rest) (elim t [ true ↦ (collectOld (v .elder) roots ms >>= λ r. ok (record { elder = r .1; steps = v .steps ++ sweeping (r .0) (v .elder) (r .1) ∷ [] })) | false ↦ ok v ])
           go true f =
-              bind {P = λ r. (r .0 ≡ ps) × Made rest (after (r .1))} _
+              bind {P = λ r. (r .0 ≡ ps) × Made true rest (after (r .1))} _
               (asked 11 (ltb (v .elder .colls) most) _ (λ l.
               bind _ (both (sweep-good (h .size) ps (v .elder) (ltb-true (v .elder .colls) most l) (k .good)) (sweep-is ps (v .elder))) (λ e g.
               such (refl, made (leb-true (h .size .t) (held (v .elder .slots)) f) e (g .0) (g .1)))))
-              (λ r m. such (rw (m .0) (m .1)))
-          go false f = such k
+              (λ r m. such (record { swept-before = true; made = rw (m .0) (m .1); due = inl refl }))
+          go false f = such (record { swept-before = false; made = k; due = inr (leb-false (h .size .t) (held (v .elder .slots)) f) })
 
-      move-made : (p : Ptr) (rest : List Ptr) (v : Moving) → Made (p ∷ rest) v → Holds (Made rest) (moveOne (h .size) (h .young) roots ms p v)
+      move-made : (p : Ptr) (rest : List Ptr) (v : Moving) → Made false (p ∷ rest) v → Holds (Made false rest) (moveOne (h .size) (h .young) roots ms p v)
       unfolding moveOne place movesOf sweepsOf sources
       move-made p rest v k =
           bind _ (collect-made (p ∷ rest) v k) (λ u m.
           bind {P = λ r. Good M (h .size) (r .1) × PutBy (part (h .young) (p .base)) (u .elder) r × Copied h p (r .0) (u .elder) (r .1)} _
-          (bind _ (room-is (h .size) (length (part (h .young) (p .base))) (u .elder) (m .good)) (λ _ o.
-          weaken (both (put-good (h .size) (part (h .young) (p .base)) (u .elder) (part-valid (p .base)) (m .good) o) (put-is (part (h .young) (p .base)) (u .elder))) (λ r g.
-          (g .0, g .1, copied p (u .elder) r (good-fit (m .good)) o (g .1)))))
+          (bind _ (room-is (h .size) (length (part (h .young) (p .base))) (u .elder) (m .made .good)) (λ _ o.
+          weaken (both (put-good (h .size) (part (h .young) (p .base)) (u .elder) (part-valid (p .base)) (m .made .good) o) (put-is (part (h .young) (p .base)) (u .elder))) (λ r g.
+          (g .0, g .1, copied p (u .elder) r (good-fit (m .made .good)) o (g .1)))))
           (λ r g. such (step u m r (g .0) (g .1) (g .2))))
         where
-          step : (u : Moving) → Made (p ∷ rest) u → (r : ℕ × Elder) → Good M (h .size) (r .1) → PutBy (part (h .young) (p .base)) (u .elder) r → Copied h p (r .0) (u .elder) (r .1)
-              → Made rest (record { elder = r .1; steps = u .steps ++ move p (r .0) (u .elder) (r .1) ∷ [] })
+          step : (u : Moving) → Ready (p ∷ rest) u → (r : ℕ × Elder) → Good M (h .size) (r .1) → PutBy (part (h .young) (p .base)) (u .elder) r → Copied h p (r .0) (u .elder) (r .1)
+              → Made false rest (record { elder = r .1; steps = u .steps ++ move p (r .0) (u .elder) (r .1) ∷ [] })
           step u m r g q c = record {
             good = g;
-            done = rw (movesOf-append (u .steps) (move p (r .0) (u .elder) (r .1) ∷ []), sources-append (movesOf (u .steps)) ((p, r .0) ∷ []), append-assoc) (m .done);
-            chain = chain-append (h .old) (u .steps) (u .elder) (move p (r .0) (u .elder) (r .1) ∷ []) (r .1) (m .chain) (refl, c, refl);
-            colls = rw (sweepsOf-append (u .steps) (move p (r .0) (u .elder) (r .1) ∷ []), append-nil) (q .colls ∙ m .colls);
-            from = λ x n. ⊎-elim (m .from x) (λ j. inr (p, rw (m .done) at (Memᴰ·append-right (sources (movesOf (u .steps))) (List·Memᴰ·head {x = p} {xs = rest} refl)), j)) (set-from (u .elder .slots) (held (u .elder .slots)) (part (h .young) (p .base)) (rw (q .slots) at n));
+            done = rw (movesOf-append (u .steps) (move p (r .0) (u .elder) (r .1) ∷ []), sources-append (movesOf (u .steps)) ((p, r .0) ∷ []), append-assoc) (m .made .done);
+            chain = chain-append false (h .old) (u .steps) (m .swept-before) (u .elder) (move p (r .0) (u .elder) (r .1) ∷ []) false (r .1) (m .made .chain) (refl, m .due, c, (refl, refl));
+            colls = rw (sweepsOf-append (u .steps) (move p (r .0) (u .elder) (r .1) ∷ []), append-nil) (q .colls ∙ m .made .colls);
+            from = λ x n. ⊎-elim (m .made .from x) (λ j. inr (p, rw (m .made .done) at (Memᴰ·append-right (sources (movesOf (u .steps))) (List·Memᴰ·head {x = p} {xs = rest} refl)), j)) (set-from (u .elder .slots) (held (u .elder .slots)) (part (h .young) (p .base)) (rw (q .slots) at n));
           }
 
-      pub moves : Good M (h .size) (h .old) → Holds (Made []) (each (moveOne (h .size) (h .young) roots ms) own (record { elder = h .old; steps = [] }))
+      pub moves : Good M (h .size) (h .old) → Holds (Made false []) (each (moveOne (h .size) (h .young) roots ms) own (record { elder = h .old; steps = [] }))
       unfolding sources movesOf sweepsOf
-      moves g = each-holds Made (moveOne (h .size) (h .young) roots ms) move-made own _ (record { good = g; done = refl; chain = refl; colls = sym (add-zero (h .old .colls)); from = λ c m. inl m })
+      moves g = each-holds (Made false) (moveOne (h .size) (h .young) roots ms) move-made own _ (record { good = g; done = refl; chain = (refl, refl); colls = sym (add-zero (h .old .colls)); from = λ c m. inl m })

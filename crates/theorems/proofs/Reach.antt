@@ -18,6 +18,11 @@ module _ {A : Type 0} where
   abbrev pub ExactBy : (A → List A) → List A → List A → Type 0
   ExactBy step start = Exact (λ x. List·Memᴰ x start) (λ x y. List·Memᴰ y (step x))
 
+  -- every set that has the start and is closed under the step contains the least one
+  pub least-in-each : {S : A → Type 0} {L : A → A → Type 0} (P : A → Type 0) → ((x : A) → S x → P x) → ((x y : A) → P x → L x y → P y) → (x : A) → Least S L x → P x
+  least-in-each P b c x (begin m) = b x m
+  least-in-each P b c x (next {x = w} p m) = c w x (least-in-each P b c w p) m
+
   -- where starts and steps agree, so do the least sets
   pub least-map : {S S′ : A → Type 0} {L L′ : A → A → Type 0} → ((x : A) → S x → S′ x) → ((x y : A) → L x y → L′ x y) → {x : A} → Least S L x → Least S′ L′ x
   least-map f g (begin {x = x} m) = begin (f x m)
