@@ -16,7 +16,7 @@ use Rattle.model.specs.Barrier.{most, masks}
 use Rattle.model.specs.Heap.{Nursery, Elder, Sizes, inBounds, Heap, part, held}
 use Rattle.model.specs.Image.{cursorIn}
 use Rattle.model.specs.Nursery.{bump, youngMembers, survivors, allAllocated, emptied, collectYoung}
-use Rattle.model.specs.Elder.{room, placeNew, Moving, moveOne, movesOf}
+use Rattle.model.specs.Elder.{placeNew, Moving, moveOne, movesOf}
 use Rattle.model.specs.Collector.{Allocation, allocAgain, collectAndAlloc}
 use Rattle.model.specs.Demand.{YoungStart, YoungLeads, Given, AllChanged, sources, Collected}
 use Rattle.theorems.specs.Fit.{FitNursery, Fit}

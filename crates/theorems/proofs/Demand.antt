@@ -6,7 +6,7 @@ use mathlib.Core.List.{List, [], _∷_, map, List·Memᴰ·not-nil}
 use Prim.Native.Nat.{ℕ, zero, suc, _+_, _%_, _≤_, zero-le}
 use native.Mathlib.Omega.{arith}
 use lib.Dec.{eqb}
-use lib.ListN.{length, getD, replicate}
+use lib.ListN.{length, replicate}
 use Rattle.model.specs.Lists.{consIf, keepIf, flat, sum}
 use Rattle.model.specs.Res.{Res, ok, refuse, _>>=_, Holds, such, none}
 use Rattle.model.specs.Records.{whole, cellWords, Cell, plain, ref, wholeCells}

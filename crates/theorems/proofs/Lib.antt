@@ -22,3 +22,5 @@ pub mod Demand
 pub mod Texts
 pub mod Reading
 pub mod Figure
+pub mod Does
+pub mod Apart

@@ -2,3 +2,5 @@ pub mod Fit
 pub mod Kept
 pub mod Reading
 pub mod Rounding
+pub mod Does
+pub mod Apart
