@@ -48,7 +48,7 @@ fit-set : (b : Barrier) (i v : ℕ) → v ≤ most → FitBarrier b → FitBarri
 unfolding counts
 fit-set b i v h f = record { size = length-set (counts b) i v ∙ f .size; bounded = allAtMost-set most (counts b) i v h (f .bounded) }
 
-zeros-bounded : (m n : ℕ) → allAtMost m (replicate n 0) ≡ true
+pub zeros-bounded : (m n : ℕ) → allAtMost m (replicate n 0) ≡ true
 unfolding allAtMost
 zeros-bounded m zero = refl
 zeros-bounded m (suc n) = rw (le-leb 0 m zero-le) (zeros-bounded m n)

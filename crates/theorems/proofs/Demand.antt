@@ -3,10 +3,10 @@ use mathlib.Core.Path.{_≡_, refl, sym, ap, subst, _∙_}
 use mathlib.Core.Bool.{Bool, true, false, not, _&&_}
 use mathlib.Core.Logic.{⊎-map}
 use mathlib.Core.List.{List, [], _∷_, map, List·Memᴰ·not-nil}
-use Prim.Native.Nat.{ℕ, zero, suc, _+_, _%_, _≤_, zero-le}
+use Prim.Native.Nat.{ℕ, _+_, _%_, _≤_, zero-le}
 use native.Mathlib.Omega.{arith}
 use lib.Dec.{eqb}
-use lib.ListN.{length, replicate}
+use lib.ListN.{length}
 use Rattle.model.specs.Lists.{consIf, keepIf, flat, sum}
 use Rattle.model.specs.Res.{Res, ok, refuse, _>>=_, Holds, such, none}
 use Rattle.model.specs.Records.{whole, cellWords, Cell, plain, ref, wholeCells}
@@ -20,6 +20,7 @@ use Rattle.model.specs.Calls.{cellsIn, opened, allocOn, Outcome, allocated, lef
 use Rattle.model.specs.Demand.{Collected, CollectedCall, StayedCall, Claim, History, nothing, next, pointsAt, Counted, AllClaims, Demand, Demand3}
 use Rattle.theorems.specs.Kept.{events, run}
 use Rattle.theorems.proofs.Res.{holds-at}
+use Rattle.theorems.proofs.Lists.{flat-empty}
 use borrow.Author.Tests.{eqb-true}
 use Rattle.theorems.proofs.Barrier.{bit, crosses, tally}
 use Rattle.theorems.proofs.Contents.{valid-all}
@@ -64,11 +65,6 @@ reached z h e g = record {
   imaged = subst (λ (x : Sizes). Imaged x (encode h)) e (imaged h (good-heap-fit g));
   good = rw (decode-encode h (good-heap-fit g)) g;
 }
-
-flat-empty : (n : ℕ) → flat {A = Cell} (replicate n []) ≡ []
-unfolding flat
-flat-empty zero = refl
-flat-empty (suc n) = flat-empty n
 
 fresh-reached : (z : Sizes) → inBounds z ≡ true → Reached z (encode (fresh z))
 unfolding fresh tally

@@ -8,16 +8,18 @@ use native.Mathlib.Omega.{arith}
 use lib.Dec.{leb}
 use lib.ListN.{length, getD, take, replicate, length-append, length-replicate, length-map, take-append-drop}
 use Rattle.model.specs.Lists.{flat, sum, allAtMost}
-use Rattle.model.specs.Records.{Cell, blank, allValid, cellWords, cellsOf, wholeCells}
+use Rattle.model.specs.Records.{blank, allValid, cellWords, cellsOf, wholeCells}
 use Rattle.model.specs.Barrier.{most, counts}
 use Rattle.model.specs.Heap.{Sizes, inBounds, Heap, fresh, inUse}
 use Rattle.model.specs.Image.{Regions, imageLength, sizesOf, regions, flag, encode, decode, sized, cursorIn, tiles, flagged, packedCells, formed}
 use Rattle.model.specs.Calls.{cellsIn}
 use Rattle.theorems.specs.Fit.{Fit, Image}
 use borrow.Author.Tests.{eqb-true, lt-ltb, leb-true, le-leb}
-use Rattle.theorems.proofs.Lists.{and-right, and-parts, eqb-same}
+use Rattle.theorems.proofs.Lists.{and-right, and-parts, eqb-same, flat-empty}
+use Rattle.theorems.proofs.Barrier.{absent-fit}
+use Rattle.theorems.proofs.Tiles.{zeros-tiled}
 use Rattle.theorems.proofs.Cells.{words-length, cellsOf-length, valid-blanks, whole-words, words-in, in-of, whole-back, whole-valid, packed-words}
-use Rattle.theorems.proofs.Regions.{barrier-back, flag-back, counts-back, fit-absent, fit-flagged, flagged-fit, lengths-sum, cut-length, slotsIn, slots-back, slots-lengths, slots-valid, slots-room, slots-words, words-taken, joined, Shape, joined-length, joined-regions, regions-shape, regions-joined}
+use Rattle.theorems.proofs.Regions.{barrier-back, flag-back, counts-back, fit-flagged, flagged-fit, lengths-sum, cut-length, slotsIn, slots-back, slots-lengths, slots-valid, slots-room, slots-words, words-taken, joined, Shape, joined-length, joined-regions, regions-shape, regions-joined}
 
 -- what questions 1 and 2 ask, one by one
 
@@ -218,16 +220,6 @@ unfolding cursorIn
 cursor-start zero = refl
 cursor-start (suc n) = rw (lt-ltb 0 (suc n) (omega arith))
 
-tiles-none : (n : ℕ) → tiles 0 0 (replicate n 0) ≡ true
-unfolding tiles
-tiles-none zero = refl
-tiles-none (suc n) = tiles-none n
-
-flat-none : (n : ℕ) → _≡_ {A = List Cell} (flat (replicate n [])) []
-unfolding flat
-flat-none zero = refl
-flat-none (suc n) = flat-none n
-
 pub fresh-fit : (z : Sizes) → inBounds z ≡ true → Fit (fresh z)
 unfolding fresh inUse allValid
 fresh-fit z b = record {
@@ -236,13 +228,13 @@ fresh-fit z b = record {
     cursor = cursor-start (z .n);
     colls = zero-le;
     proms = zero-le;
-    bar = fit-absent;
+    bar = absent-fit;
     lens = length-replicate (z .n) 0;
-    tiled = tiles-none (z .n);
+    tiled = zeros-tiled (z .n);
     cells = length-replicate (z .n) blank;
     valid = valid-blanks (z .n);
   };
-  old = record { colls = zero-le; bar = fit-absent; slots = length-replicate (z .s) []; room = rw (flat-none (z .s)) zero-le; valid = rw (flat-none (z .s)) };
+  old = record { colls = zero-le; bar = absent-fit; slots = length-replicate (z .s) []; room = rw (flat-empty (z .s)) zero-le; valid = rw (flat-empty (z .s)) };
 }
 
 -- words that pass 1 and 2 are the image of the heap that they decode to, and of no other

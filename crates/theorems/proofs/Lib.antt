@@ -24,3 +24,4 @@ pub mod Reading
 pub mod Figure
 pub mod Does
 pub mod Apart
+pub mod Parts

@@ -8,7 +8,7 @@ use native.Mathlib.Nat.{le-step, not-suc-le-zero, add-zero}
 use native.Mathlib.Omega.{arith}
 use lib.Dec.{eqb, ltb}
 use borrow.Author.Tests.{eq-eqb, ltb-true, lt-ltb}
-use lib.ListN.{length, getD, take, drop, take-append-drop}
+use lib.ListN.{length, getD, take, drop, take-append-drop, replicate}
 use Rattle.model.specs.Lists.{consIf, keepIf, flat, places}
 use Rattle.theorems.proofs.Reach.{Sub}
 
@@ -74,6 +74,11 @@ module _ {A : Type 0} where
   flat-in [] b x m = absurd (List·Memᴰ·not-nil m)
   flat-in (s ∷ ss) zero x m = Memᴰ·append-left (flat ss) m
   flat-in (s ∷ ss) (suc b) x m = Memᴰ·append-right s (flat-in ss b x m)
+
+pub flat-empty : {A : Type 0} (n : ℕ) → flat {A = A} (replicate n []) ≡ []
+unfolding flat
+flat-empty zero = refl
+flat-empty (suc n) = flat-empty n
 
 pub places-length : (xs : List ℕ) (i : ℕ) → length (places i xs) ≤ length xs
 unfolding places

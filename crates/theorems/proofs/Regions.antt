@@ -4,25 +4,20 @@ use mathlib.Core.Bool.{true, false≢true}
 use mathlib.Core.List.{List, [], _∷_, _++_, map}
 use Prim.Native.Nat.{ℕ, zero, suc, _+_, _-_, _*_, _≤_, _<_}
 use native.Mathlib.Omega.{arith}
-use lib.Dec.{leb·zero}
-use lib.ListN.{length, getD, take, drop, replicate, length-append, length-take, length-drop, length-replicate, take-append-drop}
+use lib.ListN.{length, getD, take, drop, replicate, length-append, length-take, length-drop, take-append-drop}
 use lib.Seq.{drop-cons, take-at, drop-at}
 use Rattle.model.specs.Lists.{flat, sum, allAtMost}
 use Rattle.model.specs.Records.{Cell, cellWords, cellsOf, allValid}
-use Rattle.model.specs.Barrier.{Barrier, absent, present, cache, most, counts}
+use Rattle.model.specs.Barrier.{Barrier, absent, present, cache, counts}
 use Rattle.model.specs.Heap.{Sizes, inUse}
 use Rattle.model.specs.Image.{Regions, imageLength, sizesOf, regions, flag, barrier, cut, flagged, packedCells}
 use Rattle.theorems.specs.Fit.{FitBarrier}
 use borrow.Author.Tests.{leb-true}
+use Rattle.theorems.proofs.Barrier.{zeros-bounded, absent-fit}
 use Rattle.theorems.proofs.Lists.{and-parts}
 use Rattle.theorems.proofs.Cells.{cells-back, cellsOf-length, packed-valid, packed-back, packed-room}
 
 -- a barrier, its flag and its counts
-
-zeros-small : (m n : ℕ) → allAtMost m (replicate n 0) ≡ true
-unfolding allAtMost
-zeros-small m zero = refl
-zeros-small m (suc n) = rw (leb·zero m) (zeros-small m n)
 
 all-zero : (xs : List ℕ) → allAtMost 0 xs ≡ true → xs ≡ replicate (length xs) 0
 unfolding allAtMost
@@ -45,18 +40,14 @@ unfolding flagged barrier counts
 counts-back zero cs e h = rw (← h) (sym (all-zero cs e))
 counts-back (suc f) cs e h = refl
 
-pub fit-absent : FitBarrier absent
-unfolding counts
-fit-absent = record { size = length-replicate cache 0; bounded = zeros-small most cache }
-
 pub fit-flagged : (b : Barrier) → FitBarrier b → flagged (flag b) (counts b) ≡ true
 unfolding flagged flag counts
-fit-flagged absent g = zeros-small 0 cache
+fit-flagged absent g = zeros-bounded 0 cache
 fit-flagged (present cs) g = g .bounded
 
 pub flagged-fit : (f : ℕ) (cs : List ℕ) → flagged f cs ≡ true → length cs ≡ cache → FitBarrier (barrier f cs)
 unfolding flagged barrier counts
-flagged-fit zero cs e h = fit-absent
+flagged-fit zero cs e h = absent-fit
 flagged-fit (suc zero) cs e h = record { size = h; bounded = e }
 flagged-fit (suc (suc f)) cs e h = absurd (false≢true e)
 
