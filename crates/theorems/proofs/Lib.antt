@@ -25,3 +25,4 @@ pub mod Figure
 pub mod Does
 pub mod Apart
 pub mod Parts
+pub mod Numbered

@@ -4,3 +4,4 @@ pub mod Reading
 pub mod Rounding
 pub mod Does
 pub mod Apart
+pub mod Numbered
