@@ -31,7 +31,7 @@ rounded-rounds a c p = record {
     tied j e = let w : 2 * a + c ≡ (j + 1) * (2 * c) = omega arith in rw w (mul-div-cancel (j + 1) d)
 
 -- how the fraction is written does not matter
-rescaled : {n d a c k : ℕ} → 0 < d → 0 < c → n * c ≡ a * d → Rounds n d k → Rounds a c k
+pub rescaled : {n d a c k : ℕ} → 0 < d → 0 < c → n * c ≡ a * d → Rounds n d k → Rounds a c k
 rescaled {n} {d} {a} {c} pd pc e r = record {
   at-most = le-of-mul-le-mul-right {k = d} (omega (arith, mul-le-mul-right c (r .at-most))) pd;
   at-least = le-of-mul-le-mul-right {k = d} (omega (arith, mul-le-mul-right c (r .at-least))) pd;
