@@ -32,7 +32,7 @@ words-cons (plain k v) cs = refl
 words-cons (ref p) cs = refl
 
 -- so no plain cell is taken for a pointer
-plain-kind : (k v : ℕ) → validPlain k v ≡ true → k < 5
+pub plain-kind : (k v : ℕ) → validPlain k v ≡ true → k < 5
 unfolding validPlain
 plain-kind zero v e = lit< tt
 plain-kind (suc zero) v e = lit< tt
@@ -113,7 +113,7 @@ words-in cs v =
     let third : length (cellWords cs) / 3 ≡ length cs = omega (arith, words-length cs) in
     rw (third, ← append-nil (cellWords cs)) (cells-back cs [] v)
 
-in-cons : (a b o : ℕ) (w : List ℕ) → cellsIn (a ∷ b ∷ o ∷ w) ≡ cellOf a b o ∷ cellsIn w
+pub in-cons : (a b o : ℕ) (w : List ℕ) → cellsIn (a ∷ b ∷ o ∷ w) ≡ cellOf a b o ∷ cellsIn w
 unfolding cellsIn cellsOf
 in-cons a b o w = let third : length (a ∷ b ∷ o ∷ w) / 3 ≡ suc (length w / 3) = omega arith in rw third
 

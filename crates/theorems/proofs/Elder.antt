@@ -25,13 +25,13 @@ use Rattle.theorems.proofs.Barrier.{bit, crosses, tally, Covers, less, 
 -- a measure that adds up, over the slots
 
 module _ (μ : List Cell → ℕ) (μ-nil : μ [] ≡ 0) (μ-append : (s t : List Cell) → μ (s ++ t) ≡ μ s + μ t) where
-  flat-set : (ss : List (List Cell)) (i : ℕ) (t : List Cell) → i < length ss → μ (flat (set ss i t)) + μ (getD ss i []) ≡ μ (flat ss) + μ t
+  pub flat-set : (ss : List (List Cell)) (i : ℕ) (t : List Cell) → i < length ss → μ (flat (set ss i t)) + μ (getD ss i []) ≡ μ (flat ss) + μ t
   unfolding flat
   flat-set [] i t h = absurd (not-suc-le-zero h)
   flat-set (s ∷ ss) zero t h = omega (arith, μ-append t (flat ss), μ-append s (flat ss))
   flat-set (s ∷ ss) (suc i) t h = omega (arith, μ-append s (flat (set ss i t)), μ-append s (flat ss), flat-set ss i t (le-of-suc-le-suc h))
 
-  flat-keep : (ps : List Ptr) (b : ℕ) (ss : List (List Cell)) → μ (flat (keep ps b ss)) ≤ μ (flat ss)
+  pub flat-keep : (ps : List Ptr) (b : ℕ) (ss : List (List Cell)) → μ (flat (keep ps b ss)) ≤ μ (flat ss)
   unfolding flat keep
   flat-keep ps b [] = le-refl (μ [])
   flat-keep ps b (s ∷ ss) = go (keeps ps b) (flat-keep ps (suc b) ss)
@@ -49,12 +49,12 @@ tally-nil : (k : ℕ) → tally k [] ≡ 0
 unfolding tally
 tally-nil k = refl
 
-keep-length : (ps : List Ptr) (b : ℕ) (ss : List (List Cell)) → length (keep ps b ss) ≡ length ss
+pub keep-length : (ps : List Ptr) (b : ℕ) (ss : List (List Cell)) → length (keep ps b ss) ≡ length ss
 unfolding keep
 keep-length ps b [] = refl
 keep-length ps b (s ∷ ss) = ap suc (keep-length ps (suc b) ss)
 
-flat-map-length : (g : Cell → Cell) (ss : List (List Cell)) → length (flat (map (map g) ss)) ≡ length (flat ss)
+pub flat-map-length : (g : Cell → Cell) (ss : List (List Cell)) → length (flat (map (map g) ss)) ≡ length (flat ss)
 unfolding flat
 flat-map-length g [] = refl
 flat-map-length g (s ∷ ss) = simp (length-append, length-map) (omega (arith, flat-map-length g ss))

@@ -1,0 +1,34 @@
+-- What a `WriteBarrier` and the answers over it are in the model.
+use mathlib.Core.Bool.{Bool, true, false, _&&_, not}
+use mathlib.Core.List.{List}
+use Prim.Native.Nat.{ℕ, _%_, _/_}
+use lib.Dec.{eqb}
+use lib.ListN.{take}
+use Rattle.model.specs.Res.{Res, ok, refuse}
+use Rattle.model.specs.Barrier.{Barrier, absent, present}
+use Rattle.barrier.specs.declared.WriteBarrier.{WriteBarrier}
+use Rattle.barrier.specs.declared.Counting.{Counting}
+use Rattle.barrier.specs.declared.Counting.the-variants.{Done, Refused}
+use Rattle.barrier.specs.declared.Counted.{Counted}
+use Rattle.barrier.specs.declared.masks.Masks.{Masks}
+
+abbrev pub barrierIf : Bool → List ℕ → Barrier
+barrierIf true cs = present cs
+barrierIf false cs = absent
+
+abbrev pub barrierOf : WriteBarrier → Barrier
+barrierOf b = barrierIf (b .present) (b .counts)
+
+abbrev pub answerOf : Counting → WriteBarrier → Res Barrier
+answerOf Done b = ok (barrierOf b)
+answerOf (Refused q) b = refuse q
+
+abbrev pub counted : Counted → Res Barrier
+counted c = answerOf (c .answer) (c .barrier)
+
+-- the first word of a cell that points to another heap than own
+unfoldable pub crossing : ℕ → ℕ → Bool
+crossing tag own = eqb (tag % 256) 5 && not (eqb (tag / 256) own)
+
+abbrev pub maskList : Masks → List ℕ
+maskList m = take (m .count) (m .places)

@@ -1,0 +1,79 @@
+// A region's cells counted one after the other; the first refusal ends it.
+use crate::Counted;
+use crate::Counting;
+use crate::WriteBarrier;
+use value::Value;
+ghost use mathlib.Core.Path.{_≡_};
+ghost use mathlib.Core.Bool.{true};
+ghost use Prim.Native.Nat.{_+_, _<_};
+ghost use lib.ListN.{length, getD};
+ghost use Rattle.model.specs.Res.{each};
+ghost use Rattle.model.specs.Records.{validWords, wholeCells};
+ghost use Rattle.model.specs.Barrier.{countIn, countOut};
+ghost use Rattle.model.specs.Calls.{cellsIn};
+ghost use Rattle.value.specs.Value.{Spelled};
+ghost use Rattle.barrier.specs.Counts.{barrierOf, counted, crossing};
+
+// Whether a cell with this first word counts. Tested first, since each count step copies the barrier.
+fn crosses(tag: u64, own: u8) -> bool
+    ensures { λ r. ⌜ r ≡ crossing tag own ⌝ }
+{
+    tag % 256 == 5 && tag / 256 != own as u64
+}
+
+fn value_at(cells: &[u64], i: usize) -> Value
+    requires { ⌜ (i + 2 < length (now cells)) × (validWords (getD (now cells) i 0) (getD (now cells) (i + 1) 0) (getD (now cells) (i + 2) 0) ≡ true) ⌝ }
+    ensures { λ r. ⌜ Spelled (getD (now (cells .entry)) i 0) (getD (now (cells .entry)) (i + 1) 0) (getD (now (cells .entry)) (i + 2) 0) r ⌝ }
+{
+    value::value_of(cells[i], cells[i + 1], cells[i + 2])
+}
+
+pub fn count_cells_in(cells: &[u64], own: u8, barrier: WriteBarrier) -> Counted
+    requires { ⌜ wholeCells (now cells) ≡ true ⌝ }
+    ensures { λ r. ⌜ counted r ≡ each (countIn own) (cellsIn (now (cells .entry))) (barrierOf barrier) ⌝ }
+{
+    let mut b = barrier;
+    let mut i = 0;
+    while i < cells.len() {
+        if crosses(cells[i], own) {
+            let v = value_at(cells, i);
+            let c = b.count_in(own, v);
+            let a = c.answer;
+            let Counting::Done = a else {
+                return c;
+            };
+            let next = c.barrier;
+            b = next;
+        }
+        i += 3;
+    }
+    Counted {
+        answer: Counting::Done,
+        barrier: b,
+    }
+}
+
+pub fn count_cells_out(cells: &[u64], own: u8, barrier: WriteBarrier) -> Counted
+    requires { ⌜ wholeCells (now cells) ≡ true ⌝ }
+    ensures { λ r. ⌜ counted r ≡ each (countOut own) (cellsIn (now (cells .entry))) (barrierOf barrier) ⌝ }
+{
+    let mut b = barrier;
+    let mut i = 0;
+    while i < cells.len() {
+        if crosses(cells[i], own) {
+            let v = value_at(cells, i);
+            let c = b.count_out(own, v);
+            let a = c.answer;
+            let Counting::Done = a else {
+                return c;
+            };
+            let next = c.barrier;
+            b = next;
+        }
+        i += 3;
+    }
+    Counted {
+        answer: Counting::Done,
+        barrier: b,
+    }
+}

@@ -1,0 +1,10 @@
+pub mod Flat
+pub mod Counts
+pub mod Parts
+pub mod Changes
+pub mod Swaps
+pub mod Swapped
+pub mod Places
+pub mod Finds
+pub mod Packs
+pub mod Laws

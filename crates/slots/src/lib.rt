@@ -1,0 +1,263 @@
+// The elder generation's slots, packed in base order, in an image's words.
+//
+// A reading function takes the lengths and the cells' words as two slices. A writing one takes a single slice, since two parts
+// of one slice can't be lent together: s lengths, other words up to `at`, the cells' words.
+ghost use mathlib.Core.Path.{_≡_};
+ghost use mathlib.Core.List.{[], map};
+ghost use Prim.Native.Nat.{_+_, _-_, _*_, _^_, _≤_, _<_};
+ghost use lib.ListN.{length, getD, take, set, replicate};
+ghost use Rattle.model.specs.Lists.{keepIf, flat, places, sum};
+ghost use Rattle.model.specs.Records.{blank, whole, samePtr};
+ghost use Rattle.model.specs.Heap.{inUse};
+ghost use Rattle.model.specs.Elder.{keeps, keep};
+ghost use Rattle.model.specs.Collector.{holds, swapCell};
+ghost use Rattle.slots.specs.Slots.{Packed, slotsOf, slotsAt, Elder, Changed, readOld, ReadBy, pointer, Swapped, SwappedAt, Placed, members, stepped, steppedTo};
+
+// ---- Lengths
+
+// The number of cells before base b. Every elder access runs this loop: it only adds, so that it can be done many at a time.
+pub fn start_of(lens: &[u64], b: usize) -> usize
+    requires { ⌜ (b ≤ length (now lens)) × (sum (now lens) < 2 ^ 64) ⌝ }
+    ensures { λ r. ⌜ r ≡ sum (take b (now (lens .entry))) ⌝ }
+{
+    let mut n: usize = 0;
+    let mut i = 0;
+    while i < b {
+        n += lens[i] as usize;
+        i += 1;
+    }
+    n
+}
+
+// The number of cells in use.
+pub fn in_use(lens: &[u64]) -> usize
+    requires { ⌜ sum (now lens) < 2 ^ 64 ⌝ }
+    ensures { λ r. ⌜ r ≡ sum (now (lens .entry)) ⌝ }
+{
+    start_of(lens, lens.len())
+}
+
+// The number of allocations.
+pub fn held(lens: &[u64]) -> usize
+    ensures { λ r. ⌜ r ≡ length (places 0 (now (lens .entry))) ⌝ }
+{
+    let mut n: usize = 0;
+    let mut i = 0;
+    while i < lens.len() {
+        if 0 < lens[i] {
+            n += 1;
+        }
+        i += 1;
+    }
+    n
+}
+
+// ---- A cell is read
+
+// A cell's three words, or no cell.
+pub enum Old {
+    At(u64, u64, u64),
+    Nothing,
+}
+
+fn cell_at(cells: &[u64], i: usize) -> Old
+    requires { ⌜ i * 3 + 2 < length (now cells) ⌝ }
+    ensures { λ r. ⌜ r ≡ Old.At (getD (now (cells .entry)) (3 * i) 0) (getD (now (cells .entry)) (3 * i + 1) 0) (getD (now (cells .entry)) (3 * i + 2) 0) ⌝ }
+{
+    let at = 3 * i;
+    Old::At(cells[at], cells[at + 1], cells[at + 2])
+}
+
+// The cell at (base, offset).
+pub fn read_old(lens: &[u64], cells: &[u64], base: u64, offset: u64) -> Old
+    requires { ⌜ Packed (now lens) (now cells) (slotsOf (now lens) (now cells)) ⌝ }
+    ensures { λ r. ⌜ ReadBy (readOld (slotsOf (now (lens .entry)) (now (cells .entry))) base offset) r ⌝ }
+{
+    let b = base as usize;
+    let o = offset as usize;
+    if lens.len() <= b {
+        return Old::Nothing;
+    }
+    let n = lens[b] as usize;
+    if n <= o {
+        return Old::Nothing;
+    }
+    cell_at(cells, start_of(lens, b) + o)
+}
+
+// ---- Cells that hold a pointer are changed; the words may be those of any cells
+
+// The i-th cell becomes (1, new, 0) if it is the pointer. Answers whether it was.
+pub fn swap_at(cells: &mut [u64], i: usize, heap: u64, base: u64, offset: u64, new: u64) -> bool
+    requires { ⌜ (i * 3 + 2 < length (now cells)) × (heap < 2) ⌝ }
+    ensures { λ r. ⌜ SwappedAt (pointer heap base offset, new) i (now (cells .entry)) (now (cells .exit)) r ⌝ }
+{
+    let at = 3 * i;
+    if cells[at] != 5 + 256 * heap {
+        return false;
+    }
+    if cells[at + 1] != base {
+        return false;
+    }
+    if cells[at + 2] != offset {
+        return false;
+    }
+    cells[at] = 261;
+    cells[at + 1] = new;
+    cells[at + 2] = 0;
+    true
+}
+
+// The same of all n cells. Answers how many there were: each counts in a barrier.
+pub fn swap_cells(cells: &mut [u64], n: usize, heap: u64, base: u64, offset: u64, new: u64) -> usize
+    requires { ⌜ (length (now cells) ≡ n * 3) × (heap < 2) ⌝ }
+    ensures { λ r. ⌜ Swapped (pointer heap base offset, new) n (now (cells .entry)) (now (cells .exit)) r ⌝ }
+{
+    let mut hits: usize = 0;
+    let mut i = 0;
+    while i < n {
+        if swap_at(cells, i, heap, base, offset, new) {
+            hits += 1;
+        }
+        i += 1;
+    }
+    hits
+}
+
+// The same of every cell of the elder.
+pub fn swap_old(w: &mut [u64], s: usize, at: usize, heap: u64, base: u64, offset: u64, new: u64) -> usize
+    requires { ⌜ Elder s at (now w) (slotsAt s at (now w)) ⌝ }
+    requires { ⌜ heap < 2 ⌝ }
+    ensures { λ _. ⌜ Changed s at (now (w .entry)) (now (w .exit)) (map (map (swapCell (pointer heap base offset, new))) (slotsAt s at (now (w .entry)))) ⌝ }
+    ensures { λ r. ⌜ r ≡ length (keepIf (holds (pointer heap base offset)) (flat (slotsAt s at (now (w .entry))))) ⌝ }
+{
+    let used = in_use(&w[..s]);
+    let end = at + 3 * used;
+    swap_cells(&mut w[at..end], used, heap, base, offset, new)
+}
+
+// ---- Cells are placed
+
+// An allocation's words: where they start, how many they are, and how many are in use in all.
+struct Hole {
+    at: usize,
+    old: usize,
+    used: usize,
+}
+
+fn hole_of(lens: &[u64], b: usize) -> Hole
+    requires { ⌜ (b < length (now lens)) × (sum (now lens) * 3 < 2 ^ 64) ⌝ }
+    ensures { λ r. ⌜ (r .at ≡ sum (take b (now (lens .entry))) * 3) × (r .old ≡ getD (now (lens .entry)) b 0 * 3) × (r .used ≡ sum (now (lens .entry)) * 3) ⌝ }
+{
+    let at = start_of(lens, b);
+    let old = lens[b] as usize;
+    let used = in_use(lens);
+    Hole {
+        at: 3 * at,
+        old: 3 * old,
+        used: 3 * used,
+    }
+}
+
+// The cells of src, len of them, at base b. An allocation that is there is replaced, and its room used again.
+pub fn place(w: &mut [u64], s: usize, at: usize, b: usize, src: &[u64], len: usize)
+    requires { ⌜ Elder s at (now w) (slotsAt s at (now w)) ⌝ }
+    requires { ⌜ (b < s) × (length (now src) ≡ len * 3) ⌝ }
+    requires { ⌜ (inUse (set (slotsAt s at (now w)) b []) + len) * 3 ≤ length (now w) - at ⌝ }
+    ensures { λ _. ⌜ Placed s at b (now (w .entry)) (now (src .entry)) (now (w .exit)) ⌝ }
+{
+    let h = hole_of(&w[..s], b);
+    words::splice(&mut w[at..], h.at, h.old, h.used, src);
+    w[b] = len as u64;
+}
+
+// The same with len Uninitialized cells, whose words are 0.
+pub fn place_blank(w: &mut [u64], s: usize, at: usize, b: usize, len: usize)
+    requires { ⌜ Elder s at (now w) (slotsAt s at (now w)) ⌝ }
+    requires { ⌜ b < s ⌝ }
+    requires { ⌜ (inUse (set (slotsAt s at (now w)) b []) + len) * 3 ≤ length (now w) - at ⌝ }
+    ensures { λ _. ⌜ Changed s at (now (w .entry)) (now (w .exit)) (set (slotsAt s at (now (w .entry))) b (replicate len blank)) ⌝ }
+{
+    let h = hole_of(&w[..s], b);
+    words::splice_zeros(&mut w[at..], h.at, h.old, h.used, 3 * len);
+    w[b] = len as u64;
+}
+
+// ---- What is no member is dropped
+
+// Is the i-th triple of list (1, b, 0)?
+fn is_at(list: &[u64], i: usize, b: u64) -> bool
+    requires { ⌜ i * 3 + 2 < length (now list) ⌝ }
+    ensures { λ r. ⌜ r ≡ samePtr (whole 1 b) (pointer (getD (now (list .entry)) (i * 3) 0) (getD (now (list .entry)) (i * 3 + 1) 0) (getD (now (list .entry)) (i * 3 + 2) 0)) ⌝ }
+{
+    let at = 3 * i;
+    if list[at] != 1 {
+        return false;
+    }
+    if list[at + 1] != b {
+        return false;
+    }
+    list[at + 2] == 0
+}
+
+// Is (1, b, 0) among the count triples of list?
+pub fn is_member(list: &[u64], count: usize, b: usize) -> bool
+    requires { ⌜ count * 3 ≤ length (now list) ⌝ }
+    ensures { λ r. ⌜ r ≡ keeps (members count (now (list .entry))) b ⌝ }
+{
+    let mut i = 0;
+    while i < count {
+        if is_at(list, i, b as u64) {
+            return true;
+        }
+        i += 1;
+    }
+    false
+}
+
+// How many of the cells' words are read, and how many of them are kept.
+struct Ends {
+    src: usize,
+    dst: usize,
+}
+
+// Keeps or drops the allocation at b. A base without one costs no search.
+fn pack_one(w: &mut [u64], at: usize, b: usize, ends: Ends, list: &[u64], count: usize) -> Ends
+    requires { ⌜ (b < at) × (at ≤ length (now w)) × (count * 3 ≤ length (now list)) ⌝ }
+    requires { ⌜ (ends .dst ≤ ends .src) × (ends .src + getD (now w) b 0 * 3 ≤ length (now w) - at) ⌝ }
+    ensures { λ r. ⌜ now (w .exit) ≡ stepped (keeps (members count (now (list .entry))) b) at b (ends .src) (ends .dst) (getD (now (w .entry)) b 0 * 3) (now (w .entry)) ⌝ }
+    ensures { λ r. ⌜ (r .src ≡ ends .src + getD (now (w .entry)) b 0 * 3) × (r .dst ≡ steppedTo (keeps (members count (now (list .entry))) b) (ends .dst) (getD (now (w .entry)) b 0 * 3)) ⌝ }
+{
+    let n = 3 * w[b] as usize;
+    let src = ends.src;
+    let dst = ends.dst;
+    if n == 0 {
+        return ends;
+    }
+    if is_member(list, count, b) {
+        words::move_words(&mut w[at..], dst, src, n);
+        return Ends {
+            src: src + n,
+            dst: dst + n,
+        };
+    }
+    w[b] = 0;
+    Ends { src: src + n, dst }
+}
+
+// Keeps the allocations whose pointers are among the count triples of list, packed.
+pub fn pack(w: &mut [u64], s: usize, at: usize, list: &[u64], count: usize)
+    requires { ⌜ Elder s at (now w) (slotsAt s at (now w)) ⌝ }
+    requires { ⌜ count * 3 ≤ length (now list) ⌝ }
+    ensures { λ _. ⌜ Changed s at (now (w .entry)) (now (w .exit)) (keep (members count (now (list .entry))) 0 (slotsAt s at (now (w .entry)))) ⌝ }
+{
+    let mut ends = Ends { src: 0, dst: 0 };
+    let mut b = 0;
+    while b < s {
+        ends = pack_one(w, at, b, ends, list, count);
+        b += 1;
+    }
+    let dst = ends.dst;
+    let freed = ends.src - dst;
+    words::zero_words(&mut w[at..], dst, freed);
+}
