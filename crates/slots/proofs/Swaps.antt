@@ -167,8 +167,7 @@ module _ {m : Ptr × ℕ} {n : ℕ} {w₀ w : List ℕ} {hits i : ℕ} (x : Swap
   swap-done h = record {
     swapped = λ cs k v e.
         let q : i ≡ length cs = omega (arith, x .within) in
-        let (p, c) = x .is cs k v e in
-        (
+        let (p, c) = x .is cs k v e in (
           p ∙ ap cellWords (rw (q, take-length cs, drop-length cs) (append-nil (map (swapCell m) cs))),
           c ∙ ap (λ (l : List Cell). length (keepIf (holds (m .0)) l)) (rw q (take-length cs)),
         );

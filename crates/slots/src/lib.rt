@@ -125,7 +125,15 @@ pub fn swap_cells(cells: &mut [u64], n: usize, heap: u64, base: u64, offset: u64
 }
 
 // The same of every cell of the elder.
-pub fn swap_old(w: &mut [u64], s: usize, at: usize, heap: u64, base: u64, offset: u64, new: u64) -> usize
+pub fn swap_old(
+    w: &mut [u64],
+    s: usize,
+    at: usize,
+    heap: u64,
+    base: u64,
+    offset: u64,
+    new: u64,
+) -> usize
     requires { ⌜ Elder s at (now w) (slotsAt s at (now w)) ⌝ }
     requires { ⌜ heap < 2 ⌝ }
     ensures { λ _. ⌜ Changed s at (now (w .entry)) (now (w .exit)) (map (map (swapCell (pointer heap base offset, new))) (slotsAt s at (now (w .entry)))) ⌝ }

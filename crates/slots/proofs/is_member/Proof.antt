@@ -1,4 +1,3 @@
-
 use Prim.Native.Nat.{_-_}
 use Rattle.slots.proofs.Finds.{Looking}
 use borrow.Author.Needs.{needs}
