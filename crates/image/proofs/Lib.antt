@@ -1,0 +1,6 @@
+pub mod Bounds
+pub mod Scans
+pub mod Fills
+pub mod Packs
+pub mod Parts
+pub mod Zeros
