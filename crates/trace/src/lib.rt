@@ -47,7 +47,7 @@ pub fn find(list: &[u64], count: usize, heap: u64, base: u64, offset: u64) -> bo
 }
 
 // Stores (heap, base, offset) as entry n.
-fn store(list: &mut [u64], n: usize, heap: u64, base: u64, offset: u64)
+pub fn store(list: &mut [u64], n: usize, heap: u64, base: u64, offset: u64)
     requires { ⌜ 3 * n + 2 < length (now list) ⌝ }
     ensures { λ _. ⌜ now (list .exit) ≡ stored (now (list .entry)) n (pointer heap base offset) ⌝ }
 {

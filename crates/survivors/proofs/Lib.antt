@@ -1,0 +1,2 @@
+-- Laws that more than one function needs.
+pub mod Entries
