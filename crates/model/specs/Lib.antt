@@ -13,3 +13,4 @@ pub mod Calls
 pub mod Figure
 pub mod Command
 pub mod Demand
+pub mod Cases
