@@ -8,12 +8,12 @@ use native.Mathlib.Omega.{arith}
 use mir.Val.{Fits}
 use mir.Syntax.{w64}
 use lib.Dec.{ltb}
-use lib.ListN.{length, getD, take, drop, replicate, length-map, List·getD-map, List·getD-eq-default}
-use lib.Seq.{drop-cons, drop-length, take-length, drop-at}
+use lib.ListN.{length, getD, take, drop, replicate, length-map, length-drop, List·getD-map, List·getD-eq-default}
+use lib.Seq.{drop-cons, drop-length, take-length, length-take-le, drop-at}
 use borrow.Author.Tests.{lt-ltb, le-ltb}
 use Rattle.model.specs.Lists.{consIf, flat, places, sum}
 use Rattle.model.specs.Res.{ok}
-use Rattle.model.specs.Records.{Cell, blank, cellWords, cellOf}
+use Rattle.model.specs.Records.{Cell, blank, cellWords}
 use Rattle.model.specs.Heap.{held, inUse}
 use Rattle.theorems.proofs.Cells.{cell-back, valid-words, words-length}
 use Rattle.theorems.proofs.Regions.{lengths-sum, slots-back}
@@ -167,6 +167,23 @@ pub elder-is : {s at : ℕ} {w : List ℕ} {ss : List (List Cell)} → Elder s a
 unfolding slotsAt
 elder-is v = packed-is (v .packed)
 
+-- the lengths, as they are lent
+module _ {s at : ℕ} {w : List ℕ} {ss : List (List Cell)} (v : Elder s at w ss) where
+  pub lens-count : s ≡ length (take s w)
+  lens-count = sym (length-take-le s w (omega (arith, v .order, v .inside)))
+
+  pub slots-length : length ss ≡ s
+  slots-length = sym (packed-size (v .packed)) ∙ sym lens-count
+
+  pub lens-below : (b : ℕ) → b < s → b < length (take s w)
+  lens-below b h = omega (arith, lens-count)
+
+  pub lens-fits : length w < 2 ^ 64 → sum (take s w) * 3 < 2 ^ 64
+  lens-fits h = omega (arith, packed-sum (v .packed), v .packed .fits, length-drop at w)
+
+  pub lens-fits-1 : length w < 2 ^ 64 → sum (take s w) < 2 ^ 64
+  lens-fits-1 h = omega (arith, lens-fits h)
+
 -- `hole_of`
 
 pub hole-fits : (l : List ℕ) (b x : ℕ) → sum l * 3 < 2 ^ 64 → x ≡ sum (take b l) → Fits w64 (3 * x)
@@ -175,4 +192,4 @@ hole-fits l b x h e = omega (arith, sum-below l b)
 pub hole-old-fits : (l : List ℕ) (b : ℕ) → sum l * 3 < 2 ^ 64 → b < length l → Fits w64 (3 * getD l b 0)
 hole-old-fits l b h k = omega (arith, sum-suc l b k, sum-below l (suc b))
 
-pub ruleset counts = (sum-begin, sum-fits, sum-turn, sum-done, sum-all, count-begin, count-done, packed-fits, read-out, read-past, read-fits, read-room, read-cell, hole-fits, hole-old-fits)
+pub ruleset counts = (sum-begin, sum-fits, sum-turn, sum-done, sum-all, count-begin, count-done, packed-fits, read-out, read-past, read-fits, read-room, read-cell, lens-count, lens-below, lens-fits, lens-fits-1, hole-fits, hole-old-fits)

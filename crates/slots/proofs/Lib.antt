@@ -5,6 +5,6 @@ pub mod Changes
 pub mod Swaps
 pub mod Swapped
 pub mod Places
+pub mod Writes
 pub mod Finds
 pub mod Packs
-pub mod Laws

@@ -9,7 +9,7 @@ use native.Mathlib.Omega.{arith}
 use lib.ListN.{length, getD, set, take, drop, replicate, length-append, length-drop, length-set, List·getD-map, drop-of-length-le, take-append-drop}
 use lib.Seq.{paste, paste-zero, set-getD, length-take-le, set-at, drop-drop, drop-cons, getD-take, getD-at, take-all, take-paste, length-paste}
 use Rattle.model.specs.Lists.{flat, onlyIf}
-use Rattle.model.specs.Records.{Ptr, Cell, cellWords, allValid}
+use Rattle.model.specs.Records.{Ptr, Cell, cellWords}
 use Rattle.model.specs.Heap.{inUse}
 use Rattle.model.specs.Elder.{keeps, keep}
 use Rattle.theorems.proofs.Contents.{valid-all, all-valid, keep-from}
@@ -18,10 +18,10 @@ use Rattle.words.specs.Words.{padded}
 use Rattle.words.proofs.Laws.{drop-past, zeroed}
 use Rattle.slots.specs.Slots.{Elder, Changed, between, stepped, steppedTo}
 use Rattle.slots.proofs.Flat.{flat-append, words-append, use-next, use-take, use-split, map-set}
-use Rattle.slots.proofs.Counts.{packed-rest}
+use Rattle.slots.proofs.Counts.{packed-rest, slots-length}
 use Rattle.slots.proofs.Parts.{lent, returned, lent-is, lent-length, returned-is, take-put, drop-put, between-put, length-put, take-store, drop-store, between-store}
 use Rattle.slots.proofs.Changes.{changed}
-use Rattle.slots.proofs.Places.{slots-length, at-slot}
+use Rattle.slots.proofs.Places.{at-slot}
 
 -- `pack_one`
 

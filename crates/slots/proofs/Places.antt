@@ -2,11 +2,9 @@
 use mathlib.Core.Path.{_≡_, refl, sym, ap, _∙_}
 use mathlib.Core.Bool.{true}
 use mathlib.Core.Logic.{⊎-elim}
-use mathlib.Core.List.{List, [], _∷_, _++_, map, append-assoc}
-use Prim.Native.Nat.{ℕ, zero, suc, _+_, _-_, _*_, _^_, _≤_, _<_}
+use mathlib.Core.List.{List, [], _++_, map, append-assoc}
+use Prim.Native.Nat.{ℕ, zero, suc, _+_, _-_, _*_, _≤_, _<_}
 use native.Mathlib.Omega.{arith}
-use mir.Val.{Fits}
-use mir.Syntax.{w64}
 use lib.ListN.{length, getD, set, take, drop, replicate, length-drop, length-set, length-replicate}
 use lib.Seq.{length-take-le, take-at, drop-at, drop-drop, take-set-lt, set-append-left}
 use Rattle.model.specs.Lists.{flat, sum}
@@ -17,26 +15,9 @@ use Rattle.theorems.proofs.Contents.{valid-all, all-valid, set-from}
 use Rattle.words.specs.Words.{padded}
 use Rattle.slots.specs.Slots.{Elder, Changed, Placed, slotsAt}
 use Rattle.slots.proofs.Flat.{flat-split, flat-put, use-split, use-put, words-append, map-set}
-use Rattle.slots.proofs.Counts.{packed-sum, packed-start, packed-length, packed-size, packed-rest}
+use Rattle.slots.proofs.Counts.{packed-sum, packed-start, packed-length, packed-rest, slots-length}
 use Rattle.slots.proofs.Parts.{lent, returned, lent-is, lent-length, returned-is, between-store}
 use Rattle.slots.proofs.Changes.{changed}
-
--- the lengths, as they are lent
-module _ {s at : ℕ} {w : List ℕ} {ss : List (List Cell)} (v : Elder s at w ss) where
-  pub lens-count : s ≡ length (take s w)
-  lens-count = sym (length-take-le s w (omega (arith, v .order, v .inside)))
-
-  pub slots-length : length ss ≡ s
-  slots-length = sym (packed-size (v .packed)) ∙ sym lens-count
-
-  pub lens-below : (b : ℕ) → b < s → b < length (take s w)
-  lens-below b h = omega (arith, lens-count)
-
-  pub lens-fits : length w < 2 ^ 64 → sum (take s w) * 3 < 2 ^ 64
-  lens-fits h = omega (arith, packed-sum (v .packed), v .packed .fits, length-drop at w)
-
-  pub lens-fits-1 : length w < 2 ^ 64 → sum (take s w) < 2 ^ 64
-  lens-fits-1 h = omega (arith, lens-fits h)
 
 -- the cells' words, cut around the slot b
 module _ (ws : List ℕ) (ss : List (List Cell)) (b : ℕ) (h : b < length ss) (e : ws ≡ padded (cellWords (flat ss)) (length ws)) where
@@ -78,12 +59,12 @@ module _ (ws : List ℕ) (ss : List (List Cell)) (b : ℕ) (h : b < length ss) (
         let lq : length q ≡ k - (i + j) = words-length (flat (drop (suc b) ss)) ∙ omega (arith, use-split ss b h) in
         rw (← drop-drop j i ws, cut-words, drop-at p (x ++ (q ++ z)) i lp, drop-at x (q ++ z) j lx) (take-at q z (k - (i + j)) lq)
 
-    pub replaced : (cs : List Cell) → take i ws ++ (cellWords cs ++ take (k - (i + j)) (drop (i + j) ws)) ≡ cellWords (flat (set ss b cs))
+    replaced : (cs : List Cell) → take i ws ++ (cellWords cs ++ take (k - (i + j)) (drop (i + j) ws)) ≡ cellWords (flat (set ss b cs))
     replaced cs =
         let before : take i ws ≡ p = rw cut-words (take-at p (x ++ (q ++ z)) i lp) in
         rw (before, behind-slot, flat-put ss b h cs, words-append (flat (take b ss)) (cs ++ flat (drop (suc b) ss)), words-append cs (flat (drop (suc b) ss)))
 
-set-valid : (ss : List (List Cell)) (b : ℕ) (cs : List Cell) → allValid (flat ss) ≡ true → allValid cs ≡ true → allValid (flat (set ss b cs)) ≡ true
+pub set-valid : (ss : List (List Cell)) (b : ℕ) (cs : List Cell) → allValid (flat ss) ≡ true → allValid cs ≡ true → allValid (flat (set ss b cs)) ≡ true
 set-valid ss b cs v u = valid-all _ (λ c m. ⊎-elim (all-valid (flat ss) v c) (all-valid cs u c) (set-from ss b cs m))
 
 -- `place` and `place_blank`: i, j and k are the hole's
@@ -147,4 +128,4 @@ module _ {s at : ℕ} {w : List ℕ} (v : Elder s at w (slotsAt s at w)) (b i j 
       → Changed s at w (set (returned at w ys) b len) (set (slotsAt s at w) b (replicate len blank))
   blank-made e = place-done v b i j k ei ej ek h len r (replicate len blank) (valid-blanks len) (length-replicate len blank) (rw (words-blank len) at e)
 
-pub ruleset placed = (lens-count, lens-below, lens-fits, lens-fits-1, place-in, place-used, place-room, blank-room, place-zeros, place-made, blank-made)
+pub ruleset placed = (place-in, place-used, place-room, blank-room, place-zeros, place-made, blank-made)

@@ -8,7 +8,7 @@ use lib.ListN.{length, getD, take, drop, set}
 use lib.Seq.{paste}
 use Rattle.model.specs.Lists.{keepIf, flat, sum}
 use Rattle.model.specs.Res.{Res, ok, refuse, _>>=_, ask}
-use Rattle.model.specs.Records.{Ptr, Cell, blank, cellWords, cellOf, cellsOf, allValid, validWords}
+use Rattle.model.specs.Records.{Ptr, Cell, blank, cellWords, cellOf, cellsOf, valid, allValid, validWords}
 use Rattle.model.specs.Heap.{inUse}
 use Rattle.model.specs.Image.{cut}
 use Rattle.model.specs.Collector.{holds, swapCell}
@@ -61,6 +61,10 @@ validOld Nothing = true
 pub record ReadBy (m : Res Cell) (r : Old) : Type 0 where
   pub is : answer r ≡ m
   pub valid : validOld r ≡ true
+
+-- the words of one cell written at (b, o), whatever cell it is
+pub record Written (s at b o : ℕ) (w cell v : List ℕ) : Type 0 where
+  pub written : (c : Cell) → cell ≡ cellWords (c ∷ []) → valid c ≡ true → Changed s at w v (set (slotsAt s at w) b (set (getD (slotsAt s at w) b []) o c))
 
 -- a pointer changed in the words of any valid cells
 

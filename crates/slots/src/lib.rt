@@ -11,7 +11,7 @@ ghost use Rattle.model.specs.Records.{blank, whole, samePtr};
 ghost use Rattle.model.specs.Heap.{inUse};
 ghost use Rattle.model.specs.Elder.{keeps, keep};
 ghost use Rattle.model.specs.Collector.{holds, swapCell};
-ghost use Rattle.slots.specs.Slots.{Packed, slotsOf, slotsAt, Elder, Changed, readOld, ReadBy, pointer, Swapped, SwappedAt, Placed, members, stepped, steppedTo};
+ghost use Rattle.slots.specs.Slots.{Packed, slotsOf, slotsAt, Elder, Changed, readOld, ReadBy, pointer, Written, Swapped, SwappedAt, Placed, members, stepped, steppedTo};
 
 // ---- Lengths
 
@@ -52,7 +52,7 @@ pub fn held(lens: &[u64]) -> usize
     n
 }
 
-// ---- A cell is read
+// ---- A cell is read or written
 
 // A cell's three words, or no cell.
 pub enum Old {
@@ -83,6 +83,16 @@ pub fn read_old(lens: &[u64], cells: &[u64], base: u64, offset: u64) -> Old
         return Old::Nothing;
     }
     cell_at(cells, start_of(lens, b) + o)
+}
+
+// The three words of cell take the place of the cell at (b, o).
+pub fn write_old(w: &mut [u64], s: usize, at: usize, b: usize, o: usize, cell: &[u64])
+    requires { ⌜ Elder s at (now w) (slotsAt s at (now w)) ⌝ }
+    requires { ⌜ (o < length (getD (slotsAt s at (now w)) b [])) × (length (now cell) ≡ 3) ⌝ }
+    ensures { λ _. ⌜ Written s at b o (now (w .entry)) (now (cell .entry)) (now (w .exit)) ⌝ }
+{
+    let i = start_of(&w[..s], b) + o;
+    words::copy_words(&mut w[at..], 3 * i, cell);
 }
 
 // ---- Cells that hold a pointer are changed; the words may be those of any cells

@@ -65,7 +65,7 @@ tally-set k [] i c d h = absurd (not-suc-le-zero h)
 tally-set k (a ∷ l) zero c d h = omega arith
 tally-set k (a ∷ l) (suc i) c d h = omega (arith, tally-set k l i c d (le-of-suc-le-suc h))
 
-in-range : (ss : List (List Cell)) (b : ℕ) {o : ℕ} → o < length (getD ss b []) → b < length ss
+pub in-range : (ss : List (List Cell)) (b : ℕ) {o : ℕ} → o < length (getD ss b []) → b < length ss
 in-range [] b h = absurd (not-suc-le-zero h)
 in-range (s ∷ ss) zero h = suc-le-suc zero-le
 in-range (s ∷ ss) (suc b) h = suc-le-suc (in-range ss b h)

@@ -1,12 +1,12 @@
 -- Laws of `paste` and `padded`, and the loops that paste.
 use Prim.Native.Nat.{ℕ, zero, suc, _+_, _-_, _≤_, _<_}
 use mathlib.Core.Path.{_≡_, refl, sym, ap, _∙_}
-use mathlib.Core.List.{List, [], _∷_, _++_, append-nil, append-assoc}
+use mathlib.Core.List.{List, [], _∷_, _++_, append-assoc}
 use native.Mathlib.Numerals.{add-one}
 use native.Mathlib.Nat.{le-antisymm, not-suc-le-zero, le-of-suc-le-suc, sub-self, sub-zero}
 use native.Mathlib.Omega.{arith}
-use lib.ListN.{length, getD, set, take, drop, length-set, length-append, length-drop, replicate, length-replicate, replicate-append-replicate, getD-replicate, drop-of-length-le, take-append-drop}
-use lib.Seq.{paste, paste-zero, paste-suc, length-paste-head, take-paste, drop-paste, drop-drop, drop-cons, getD-drop, getD-take, take-all, take-take, take-append-le, length-take-le, drop-at}
+use lib.ListN.{length, getD, set, take, drop, length-set, length-append, length-drop, replicate, length-replicate, replicate-append-replicate, getD-replicate, drop-of-length-le}
+use lib.Seq.{paste, paste-zero, paste-suc, take-paste, drop-paste, drop-drop, drop-cons, getD-drop, getD-take, take-all, take-take, take-append-le, length-take-le, drop-at}
 use Rattle.words.specs.Words.{padded}
 
 -- past what was pasted, and before it, nothing changes
@@ -35,10 +35,6 @@ module _ (d : List ℕ) (at : ℕ) (s : List ℕ) (n : ℕ) (h : at ≤ length d
   getD-before : (k : ℕ) → k < at → getD (paste d at s n) k 0 ≡ getD d k 0
   getD-before k l =
       sym (getD-take at (paste d at s n) k 0 l) ∙ ap (λ (r : List ℕ). getD r k 0) (take-before at (omega arith)) ∙ getD-take at d k 0 l
-
-  -- what was pasted, and what stands behind it
-  drop-head : drop at (paste d at s n) ≡ take n s ++ drop (at + n) d
-  drop-head = rw (append-assoc (take at d) (take n s) (drop (at + n) d)) (drop-at (take at d) (take n s ++ drop (at + n) d) at (length-take-le at d h))
 
 -- one more word in front of what was pasted
 paste-front : (d : List ℕ) (at : ℕ) (s : List ℕ) (n x : ℕ) → at < length d → set (paste d (suc at) s n) at x ≡ paste d at (x ∷ s) (suc n)

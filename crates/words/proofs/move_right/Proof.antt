@@ -1,10 +1,7 @@
-use Rattle.words.proofs.Laws.{Shifting}
 use borrow.Author.Needs.{needs}
-use Rattle.words.proofs.Laws.{laws}
+use Rattle.words.proofs.Laws.{Shifting, laws}
 use Rattle.words.proofs.move_right.Statement.{statement}
 use Rattle.words.proofs.move_right.Tie as tie
-use Rattle.words.proofs.move_right.Reads as reads
-use Rattle.words.proofs.move_right.Lts as lts
 
 abbrev Inv-loop : tie.InvT-loop
 Inv-loop w₀ dst src n i₀ w i = Shifting w₀ dst src n w i
@@ -12,51 +9,39 @@ Inv-loop w₀ dst src n i₀ w i = Shifting w₀ dst src n w i
 abbrev μ-loop : tie.MeasureT-loop
 μ-loop w₀ dst src n i₀ w i = i
 
--- src/lib.rt:27:5
 loop-holds : tie.Need-loop-holds Inv-loop μ-loop
 loop-holds c = search (laws, needs)
 
--- src/lib.rt:28:9
 sub-i : tie.Need-sub-i Inv-loop μ-loop
 sub-i c = search (laws, needs)
 
--- src/lib.rt:29:24
 add-w : tie.Need-add-w Inv-loop μ-loop
 add-w c = search (laws, needs)
 
--- src/lib.rt:29:22
 mul-w : tie.Need-mul-w Inv-loop μ-loop
 mul-w c = search (laws, needs)
 
--- src/lib.rt:29:22
 slice-read-w : tie.Need-slice-read-w Inv-loop μ-loop
 slice-read-w c = search (laws, needs)
 
--- src/lib.rt:29:11
 add-w-2 : tie.Need-add-w-2 Inv-loop μ-loop
 add-w-2 c = search (laws, needs)
 
--- src/lib.rt:29:9
 mul-w-2 : tie.Need-mul-w-2 Inv-loop μ-loop
 mul-w-2 c = search (laws, needs)
 
--- src/lib.rt:29:9
 slice-write-w : tie.Need-slice-write-w Inv-loop μ-loop
 slice-write-w c = search (laws, needs)
 
--- src/lib.rt:27:5
 loop-less : tie.Need-loop-less Inv-loop μ-loop
 loop-less c = search (laws, needs)
 
--- src/lib.rt:27:5
 loop-again : tie.Need-loop-again Inv-loop μ-loop
 loop-again c = search (laws, needs)
 
--- src/lib.rt:22:1
 same-length : tie.Need-same-length Inv-loop μ-loop
 same-length c = search (laws, needs)
 
--- src/lib.rt:22:1
 returns : tie.Need-returns Inv-loop μ-loop
 returns c = search (laws, needs)
 

@@ -1,11 +1,9 @@
-use borrow.Author.Needs.{needs}
 use Prim.Native.Nat.{_-_}
 use lib.ListN.{replicate}
+use borrow.Author.Needs.{needs}
 use Rattle.words.proofs.Laws.{Pasting, laws}
 use Rattle.words.proofs.zero_words.Statement.{statement}
 use Rattle.words.proofs.zero_words.Tie as tie
-use Rattle.words.proofs.zero_words.Reads as reads
-use Rattle.words.proofs.zero_words.Lts as lts
 
 abbrev Inv-loop : tie.InvT-loop
 Inv-loop w₀ at n i₀ w i = Pasting w₀ at (replicate n 0) n w i
@@ -13,39 +11,30 @@ Inv-loop w₀ at n i₀ w i = Pasting w₀ at (replicate n 0) n w i
 abbrev μ-loop : tie.MeasureT-loop
 μ-loop w₀ at n i₀ w i = n - i
 
--- src/lib.rt:64:5
 loop-holds : tie.Need-loop-holds Inv-loop μ-loop
 loop-holds c = search (laws, needs)
 
--- src/lib.rt:65:11
 add-w : tie.Need-add-w Inv-loop μ-loop
 add-w c = search (laws, needs)
 
--- src/lib.rt:65:9
 mul-w : tie.Need-mul-w Inv-loop μ-loop
 mul-w c = search (laws, needs)
 
--- src/lib.rt:65:9
 slice-write-w : tie.Need-slice-write-w Inv-loop μ-loop
 slice-write-w c = search (laws, needs)
 
--- src/lib.rt:66:9
 add-i : tie.Need-add-i Inv-loop μ-loop
 add-i c = search (laws, needs)
 
--- src/lib.rt:64:5
 loop-less : tie.Need-loop-less Inv-loop μ-loop
 loop-less c = search (laws, needs)
 
--- src/lib.rt:64:5
 loop-again : tie.Need-loop-again Inv-loop μ-loop
 loop-again c = search (laws, needs)
 
--- src/lib.rt:59:1
 same-length : tie.Need-same-length Inv-loop μ-loop
 same-length c = search (laws, needs)
 
--- src/lib.rt:59:1
 returns : tie.Need-returns Inv-loop μ-loop
 returns c = search (laws, needs)
 

@@ -1,0 +1,58 @@
+use borrow.Author.Needs.{needs}
+use Rattle.slots.proofs.Writes.{writes}
+use Rattle.slots.proofs.Counts.{counts}
+use Rattle.slots.proofs.write_old.Statement.{statement}
+use Rattle.slots.proofs.write_old.Tie as tie
+
+slice-reshare-prefix-start-of : tie.Need-slice-reshare-prefix-start-of
+slice-reshare-prefix-start-of c = search needs
+
+slice-aggregate-start-of : tie.Need-slice-aggregate-start-of
+slice-aggregate-start-of c = search (writes, counts, needs)
+
+start-of-requires : tie.Need-start-of-requires
+start-of-requires c κs = search (writes, counts, needs)
+
+add-i : tie.Need-add-i
+add-i c = search (writes, counts, needs)
+
+mul-copy-words : tie.Need-mul-copy-words
+mul-copy-words c = search needs
+
+sub-copy-words : tie.Need-sub-copy-words
+sub-copy-words c = search needs
+
+part-copy-words-start : tie.Need-part-copy-words-start
+part-copy-words-start c = search needs
+
+part-copy-words-end : tie.Need-part-copy-words-end
+part-copy-words-end c = search needs
+
+mul-copy-words-2 : tie.Need-mul-copy-words-2
+mul-copy-words-2 c = search (writes, counts, needs)
+
+copy-words-requires : tie.Need-copy-words-requires
+copy-words-requires c κs = search (writes, counts, needs)
+
+same-length : tie.Need-same-length
+same-length c = search needs
+
+returns : tie.Need-returns
+returns c = search (writes, counts, needs)
+
+pub write-old-spec : {M : Type 1} → statement M
+write-old-spec =
+    tie.close
+    (tie.spec
+    slice-reshare-prefix-start-of
+    slice-aggregate-start-of
+    start-of-requires
+    add-i
+    mul-copy-words
+    sub-copy-words
+    part-copy-words-start
+    part-copy-words-end
+    mul-copy-words-2
+    copy-words-requires
+    same-length
+    returns)
