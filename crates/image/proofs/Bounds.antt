@@ -1,19 +1,16 @@
 -- Sizes within bounds, and what a test says.
-use mathlib.Core.Path.{_≡_, refl, sym, _∙_}
+use mathlib.Core.Path.{_≡_, sym, _∙_}
 use mathlib.Core.Bool.{Bool, true, false, not}
 use mathlib.Core.List.{List}
 use Prim.Native.Nat.{ℕ, _+_, _*_}
 use native.Mathlib.Omega.{arith}
 use borrow.Author.Tests.{leb-true, not-true, not-false}
-use Rattle.model.specs.Res.{ok, _>>=_, ask}
 use Rattle.model.specs.Heap.{Sizes, inBounds}
-use Rattle.model.specs.Image.{imageLength, sizesOf, decode, sized, formed}
-use Rattle.model.specs.Calls.{scratchLength, opened}
+use Rattle.model.specs.Image.{imageLength, sizesOf, sized}
+use Rattle.model.specs.Calls.{scratchLength}
 use Rattle.theorems.proofs.Lists.{and-parts}
 use Rattle.theorems.proofs.Image.{sized-says}
-use Rattle.image.specs.declared.Checked.{Checked}
 use Rattle.image.specs.Places.{imageEnd, Bounded, Sized}
-use Rattle.image.specs.Answers.{checkedAnswer, imageAsked}
 
 -- what a test says whose answer was p
 module _ {a p : Bool} (e : p ≡ a) where
@@ -46,12 +43,3 @@ unfolding sizesOf
 is-sized w e =
     let (bounds, long) = sized-says w e in
     record { bounds = bounded (sizesOf w) bounds; long = long ∙ sym (image-end (sizesOf w)) }
-
--- an image's heap, if `check` answers so
-pub opened-by : (r : Checked) (w : List ℕ) → checkedAnswer r ≡ imageAsked w → opened w ≡ (checkedAnswer r >>= λ _. ok (decode w))
-unfolding opened imageAsked
-opened-by r w e = rw e (go (sized w))
-  where
-    go : (t : Bool) → (ask 1 t >>= λ _. ask 2 (formed w) >>= λ _. ok (decode w)) ≡ ((ask 1 t >>= λ _. ask 2 (formed w)) >>= λ _. ok (decode w))
-    go true = refl
-    go false = refl

@@ -4,3 +4,4 @@ pub mod Fills
 pub mod Packs
 pub mod Parts
 pub mod Zeros
+pub mod Opened

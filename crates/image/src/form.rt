@@ -21,6 +21,7 @@ fn cursor_in(cursor: u64, n: u64) -> bool
     cursor == 0
 }
 
+// The cursor and the three counters.
 fn counters(image: &[u64]) -> bool
     requires { ⌜ Sized (now image) ⌝ }
     ensures { λ r. ⌜ r ≡ countersGood (now (image .entry)) ⌝ }
@@ -34,6 +35,7 @@ fn counters(image: &[u64]) -> bool
     )
 }
 
+// Both barriers.
 fn barriers(image: &[u64]) -> bool
     requires { ⌜ Sized (now image) ⌝ }
     ensures { λ r. ⌜ r ≡ barriersGood (now (image .entry)) ⌝ }
@@ -50,6 +52,7 @@ fn barriers(image: &[u64]) -> bool
     )
 }
 
+// The nursery's lengths and cells.
 fn young(image: &[u64]) -> bool
     requires { ⌜ Sized (now image) ⌝ }
     ensures { λ r. ⌜ r ≡ youngGood (now (image .entry)) ⌝ }
@@ -65,6 +68,7 @@ fn young(image: &[u64]) -> bool
     cells::whole(&image[at..end])
 }
 
+// The elder's lengths and cells. A sum of c + 1 stands for any that is too large.
 fn old(image: &[u64]) -> bool
     requires { ⌜ Sized (now image) ⌝ }
     ensures { λ r. ⌜ r ≡ oldGood (now (image .entry)) ⌝ }

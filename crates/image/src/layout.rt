@@ -1,4 +1,4 @@
-// Where the parts of an image stand: no other file has these numbers.
+// Where the parts of an image stand. No other file has these numbers, so that a new layout changes this one alone.
 ghost use mathlib.Core.Path.{_≡_};
 ghost use Prim.Native.Nat.{_+_, _*_, _≤_};
 ghost use Rattle.image.specs.Places.{slotLengthsAt, youngCellsAt, oldCellsAt, imageEnd};
@@ -35,7 +35,7 @@ pub const OLD_COUNTS: usize = 266;
 
 pub const LENGTHS: usize = 522;
 
-// The elder's lengths.
+// Where the elder's lengths begin.
 pub fn slot_lengths(n: usize) -> usize
     requires { ⌜ n ≤ 2048 ⌝ }
     ensures { λ r. ⌜ r ≡ slotLengthsAt n ⌝ }
@@ -43,7 +43,7 @@ pub fn slot_lengths(n: usize) -> usize
     LENGTHS + n
 }
 
-// The nursery's cells.
+// Where the nursery's cells begin.
 pub fn young_cells(n: usize, s: usize) -> usize
     requires { ⌜ (n ≤ 2048) × (s ≤ 8192) ⌝ }
     ensures { λ r. ⌜ r ≡ youngCellsAt n s ⌝ }
@@ -51,7 +51,7 @@ pub fn young_cells(n: usize, s: usize) -> usize
     slot_lengths(n) + s
 }
 
-// The elder's cells.
+// Where the elder's cells begin.
 pub fn old_cells(n: usize, s: usize) -> usize
     requires { ⌜ (n ≤ 2048) × (s ≤ 8192) ⌝ }
     ensures { λ r. ⌜ r ≡ oldCellsAt n s ⌝ }

@@ -11,7 +11,7 @@ enum Filled {
     Gap,
 }
 
-// One length x.
+// After the length x.
 fn tile(left: u64, skip: u64, x: u64) -> Filled
     ensures { λ r. ⌜ r ≡ tileOf left skip x ⌝ }
 {

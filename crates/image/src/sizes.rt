@@ -7,6 +7,7 @@ ghost use Rattle.model.specs.Heap.{inBounds};
 ghost use Rattle.model.specs.Image.{imageLength, sized};
 ghost use Rattle.image.specs.Places.{sizes};
 
+// The bounds of the sizes.
 const MOST_N: u64 = 2048;
 
 const MOST_T: u64 = 8192;
@@ -14,9 +15,11 @@ const MOST_T: u64 = 8192;
 const MOST_S: u64 = 8192;
 
 const MOST_C: u64 = 65536;
-// The root cells.
+
+// The bound of the root cells.
 pub const ROOTS: u64 = 4096;
 
+// Are the sizes within bounds?
 pub fn in_bounds(n: u64, t: u64, s: u64, c: u64) -> bool
     ensures { λ r. ⌜ r ≡ inBounds (sizes n t s c) ⌝ }
 {

@@ -9,6 +9,7 @@ use lib.Seq.{drop-drop}
 use Rattle.model.specs.Barrier.{cache}
 use Rattle.model.specs.Image.{imageLength, sizesOf, regions, sized}
 use Rattle.theorems.proofs.Image.{sized-says}
+use Rattle.image.specs.Places.{slotLengthsAt, youngCellsAt, oldCellsAt}
 use Rattle.layout.specs.Places.{regionsAt, Laid}
 use Rattle.layout.specs.declared.places.Layout.{Layout}
 
@@ -16,7 +17,7 @@ abbrev places : List ℕ → Layout
 places w =
     let n = getD w 0 0 in
     let s = getD w 2 0 in
-    record { n = n; s = s; c = getD w 3 0; counts = 10; lens = 522; slots = 522 + n; young = 522 + n + s; old = 522 + 4 * n + s }
+    record { n = n; s = s; c = getD w 3 0; counts = 10; lens = 522; slots = slotLengthsAt n; young = youngCellsAt n s; old = oldCellsAt n s }
 
 cache-is : cache ≡ 256
 unfolding cache
@@ -30,7 +31,7 @@ regions-at w =
     let lens : 10 + cache + cache ≡ 522 = omega (arith, cache-is) in
     let slots : 10 + cache + cache + n ≡ 522 + n = omega arith in
     let young : 10 + cache + cache + n + s ≡ 522 + n + s = omega arith in
-    let old : 10 + cache + cache + n + s + n * 3 ≡ 522 + 4 * n + s = omega arith in
+    let old : 10 + cache + cache + n + s + n * 3 ≡ 522 + n + s + 3 * n = omega arith in
     simp drop-drop λ i. record {
       youngCounts = take cache (drop 10 w);
       oldCounts = take cache (drop (10 + cache) w);
@@ -45,6 +46,11 @@ module _ (w : List ℕ) (e : sized w ≡ true) where
   unfolding imageLength sizesOf
   length-is = sized-says w e .1
 
-  pub laid : Laid w (places w)
+  laid : Laid w (places w)
   unfolding sizesOf
   laid = record { n = refl; s = refl; c = refl; slots = refl; young = refl; old = omega arith; end = omega (arith, length-is); parts = regions-at w }
+
+  -- at the places that crate image gives
+  pub laid-at : (a b o : ℕ) → a ≡ slotLengthsAt (getD w 0 0) → b ≡ youngCellsAt (getD w 0 0) (getD w 2 0) → o ≡ oldCellsAt (getD w 0 0) (getD w 2 0)
+      → Laid w (record { n = getD w 0 0; s = getD w 2 0; c = getD w 3 0; counts = 10; lens = 522; slots = a; young = b; old = o })
+  laid-at a b o p q r = rw (p, q, r) laid

@@ -1,4 +1,5 @@
-// Where an image's parts stand. The offsets of document 01's layout are here and nowhere else.
+// Where the parts of a given image stand.
+use image::layout;
 ghost use mathlib.Core.Path.{_≡_};
 ghost use mathlib.Core.Bool.{true};
 ghost use Rattle.model.specs.Image.{sized};
@@ -21,17 +22,20 @@ pub fn layout_of(image: &[u64]) -> Layout
     requires { ⌜ sized (now image) ≡ true ⌝ }
     ensures { λ r. ⌜ Laid (now (image .entry)) r ⌝ }
 {
-    let n = image[0] as usize;
-    let s = image[2] as usize;
-    let c = image[3] as usize;
+    let n = image[layout::SIZE_N] as usize;
+    let s = image[layout::SIZE_S] as usize;
+    let c = image[layout::SIZE_C] as usize;
+    let slots = layout::slot_lengths(n);
+    let young = layout::young_cells(n, s);
+    let old = layout::old_cells(n, s);
     Layout {
         n,
         s,
         c,
-        counts: 10,
-        lens: 522,
-        slots: 522 + n,
-        young: 522 + n + s,
-        old: 522 + 4 * n + s,
+        counts: layout::YOUNG_COUNTS,
+        lens: layout::LENGTHS,
+        slots,
+        young,
+        old,
     }
 }

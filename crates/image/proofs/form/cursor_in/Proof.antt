@@ -10,11 +10,11 @@ returns c = let a = c .before .args in rw (lt-ltb (a .cursor) (a .n) (omega arit
 
 returns-2 : tie.Need-returns-2
 unfolding cursorIn
-returns-2 c = rw (le-ltb _ _ (c .before .if1 .left), ne-eqb _ _ (c .if2 .taken))
+returns-2 c = let a = c .before .before .args in rw (le-ltb (a .cursor) (a .n) (omega arith), ne-eqb _ _ (c .if2 .taken))
 
 returns-3 : tie.Need-returns-3
 unfolding cursorIn
-returns-3 c = rw (le-ltb _ _ (c .before .if1 .left), c .if2 .left)
+returns-3 c = let a = c .before .before .args in rw (le-ltb (a .cursor) (a .n) (omega arith), c .if2 .left)
 
 pub cursor-in-spec : {M : Type 1} → statement M
 cursor-in-spec = tie.close (tie.spec returns returns-2 returns-3)

@@ -1,38 +1,30 @@
 use native.Mathlib.Omega.{arith}
 use borrow.Author.Needs.{needs}
-use Rattle.layout.proofs.Offsets.{length-is, laid}
+use Rattle.image.proofs.Bounds.{is-sized}
+use Rattle.layout.proofs.Offsets.{length-is, laid-at}
 use Rattle.layout.proofs.places.layout_of.Statement.{statement}
 use Rattle.layout.proofs.places.layout_of.Tie as tie
 
 shared-slice-read-n : tie.Need-shared-slice-read-n
-shared-slice-read-n c = omega (arith, length-is _ (c .before .pre))
+shared-slice-read-n c = omega (arith, length-is _ (c .before .before .pre))
 
 shared-slice-read-s : tie.Need-shared-slice-read-s
-shared-slice-read-s c = omega (arith, length-is _ (c .before .before .pre))
+shared-slice-read-s c = omega (arith, length-is _ (c .before .before .before .pre))
 
 shared-slice-read-c : tie.Need-shared-slice-read-c
-shared-slice-read-c c = omega (arith, length-is _ (c .before .before .before .pre))
+shared-slice-read-c c = omega (arith, length-is _ (c .before .before .before .before .pre))
 
-add-t9 : tie.Need-add-t9
-add-t9 c = omega (arith, length-is _ (c .before .before .before .pre))
+slot-lengths-requires : tie.Need-slot-lengths-requires
+slot-lengths-requires c κs = let z = is-sized _ (c .before .before .before .before .pre) in search needs
 
-add-t10 : tie.Need-add-t10
-add-t10 c = omega (arith, length-is _ (c .before .before .before .pre))
+young-cells-requires : tie.Need-young-cells-requires
+young-cells-requires c κs = let z = is-sized _ (c .before .before .before .before .before .pre) in search needs
 
-add-t11 : tie.Need-add-t11
-add-t11 c = omega (arith, length-is _ (c .before .before .before .pre))
-
-mul-t12 : tie.Need-mul-t12
-mul-t12 c = omega (arith, length-is _ (c .before .before .before .pre))
-
-add-t13 : tie.Need-add-t13
-add-t13 c = omega (arith, length-is _ (c .before .before .before .pre))
-
-add-t14 : tie.Need-add-t14
-add-t14 c = omega (arith, length-is _ (c .before .before .before .pre))
+old-cells-requires : tie.Need-old-cells-requires
+old-cells-requires c κs = let z = is-sized _ (c .before .before .before .before .before .before .pre) in search needs
 
 returns : tie.Need-returns
-returns c = search (laid, needs)
+returns c = laid-at _ (c .before .before .before .before .before .before .before .pre) _ _ _ (c .before .before .slot-lengths .ensures) (c .before .young-cells .ensures) (c .old-cells .ensures)
 
 pub layout-of-spec : {M : Type 1} → statement M
 layout-of-spec =
@@ -41,10 +33,7 @@ layout-of-spec =
     shared-slice-read-n
     shared-slice-read-s
     shared-slice-read-c
-    add-t9
-    add-t10
-    add-t11
-    mul-t12
-    add-t13
-    add-t14
+    slot-lengths-requires
+    young-cells-requires
+    old-cells-requires
     returns)
