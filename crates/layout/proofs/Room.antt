@@ -1,5 +1,5 @@
 -- Question 7, of the lengths and of the heap.
-use mathlib.Core.Path.{_≡_, refl, _∙_}
+use mathlib.Core.Path.{_≡_, refl, sym, _∙_}
 use mathlib.Core.Bool.{Bool, true, false}
 use mathlib.Core.List.{List, [], _∷_, map}
 use Prim.Native.Nat.{ℕ, zero, suc, _+_, _-_, _*_, _≤_, _<_}
@@ -80,13 +80,13 @@ module _ {w : List ℕ} (i : Image w (decode w)) {l : Layout} (p : Laid w l) whe
   fit-for k r e = (rw (lens-lent i p, c-is i p) at e) ∙ fit-is (decode w) k (i .fit .old .slots)
 
   -- what an answered base says: `put_cells` and `put_blank` rest on it
-  module _ (k b : ℕ) (e : fitFor k (decode w) ≡ ok b) where
+  module _ (k b : ℕ) (e : ok b ≡ fitFor k (decode w)) where
     abbrev Fits : ℕ → Type 0
     Fits n = Room (decode w .size) k (decode w .old) × (held (decode w .old .slots) ≡ n)
 
     fit-says : Fits b
     unfolding fitFor newBase
-    fit-says = holds-at {P = Fits} (bind _ (room-is (decode w .size) k (decode w .old) (fit-good (i .fit) .old)) (λ _ r. such (r, refl))) e
+    fit-says = holds-at {P = Fits} (bind _ (room-is (decode w .size) k (decode w .old) (fit-good (i .fit) .old)) (λ _ r. such (r, refl))) (sym e)
 
     pub fit-base : b < l .s
     fit-base = omega (arith, fit-says .0 .base, fit-says .1, i .fit .old .slots, s-is i p)

@@ -12,11 +12,11 @@ use Rattle.model.specs.Res.{ok, _>>=_, ask}
 use Rattle.model.specs.Records.{Ptr, Cell, blank, cellWords, allValid}
 use Rattle.model.specs.Barrier.{counts}
 use Rattle.model.specs.Heap.{Sizes, Heap, inUse}
-use Rattle.model.specs.Image.{sizesOf, flag, encode, sized}
+use Rattle.model.specs.Image.{sizesOf, flag, encode, decode, sized}
 use Rattle.model.specs.Collector.{holds, oldAt, read}
 use Rattle.theorems.specs.Fit.{Fit, Image}
 use Rattle.theorems.proofs.Cells.{words-length}
-use Rattle.theorems.proofs.Image.{image-sized}
+use Rattle.theorems.proofs.Image.{image-decode, image-sized}
 use Rattle.words.specs.Words.{padded}
 use Rattle.words.proofs.Laws.{padded-length}
 use Rattle.slots.specs.Slots.{Packed, slotsOf, slotsAt, Elder, Changed, Written, Placed, readOld, ReadBy, pointer}
@@ -175,6 +175,10 @@ module _ {w : List ℕ} {h : Heap} (i : Image w h) where
 
 -- w became v, as the contracts say it
 
+-- so that one operation can follow another
+pub turned-image : {g : List (List Cell) → List (List Cell)} {w v : List ℕ} → Image w (decode w) → Turned g w v → Image v (decode v)
+turned-image {w = w} i t = let j = t .turned (decode w) i in rw (image-decode j) j
+
 module _ {w : List ℕ} {l : Layout} (p : Laid w l) where
   pub tail-turned : {g : List (List Cell) → List (List Cell)} {t : List ℕ} → Changed (l .s) (l .old - l .slots) (lent (l .slots) w) t (g (slotsAt (l .s) (l .old - l .slots) (lent (l .slots) w)))
       → length t ≡ length (lent (l .slots) w) → Turned g w (returned (l .slots) w t)
@@ -186,4 +190,4 @@ module _ {w : List ℕ} {l : Layout} (p : Laid w l) where
   pub tail-placed : {b : ℕ} {src t : List ℕ} → Placed (l .s) (l .old - l .slots) b (lent (l .slots) w) src t → length t ≡ length (lent (l .slots) w) → PlacedIn b w src (returned (l .slots) w t)
   tail-placed {b} q k = record { placed = λ cs e u. tail-turned {g = λ ss. set ss b cs} (q .placed cs e u) k }
 
-pub ruleset tails = (image-says-sized, tail-formed, hits-are, parts-formed, read-is, tail-turned, tail-written, tail-placed)
+pub ruleset tails = (image-says-sized, turned-image, tail-formed, hits-are, parts-formed, read-is, tail-turned, tail-written, tail-placed)

@@ -84,7 +84,7 @@ pub fn room_for(image: &[u64], len: usize) -> Fit
 pub fn put_cells(image: &mut [u64], b: usize, src: &[u64], len: usize)
     requires { ⌜ Image (now image) (decode (now image)) ⌝ }
     requires { ⌜ length (now src) ≡ len * 3 ⌝ }
-    requires { ⌜ fitFor len (decode (now image)) ≡ ok b ⌝ }
+    requires { ⌜ ok b ≡ fitFor len (decode (now image)) ⌝ }
     ensures { λ _. ⌜ PlacedIn b (now (image .entry)) (now (src .entry)) (now (image .exit)) ⌝ }
 {
     let l = places::layout_of(image);
@@ -96,7 +96,7 @@ pub fn put_cells(image: &mut [u64], b: usize, src: &[u64], len: usize)
 // The same with len Uninitialized cells.
 pub fn put_blank(image: &mut [u64], b: usize, len: usize)
     requires { ⌜ Image (now image) (decode (now image)) ⌝ }
-    requires { ⌜ fitFor len (decode (now image)) ≡ ok b ⌝ }
+    requires { ⌜ ok b ≡ fitFor len (decode (now image)) ⌝ }
     ensures { λ _. ⌜ Turned (λ ss. set ss b (replicate len blank)) (now (image .entry)) (now (image .exit)) ⌝ }
 {
     let l = places::layout_of(image);
