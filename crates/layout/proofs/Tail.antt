@@ -19,7 +19,8 @@ use Rattle.theorems.proofs.Cells.{words-length}
 use Rattle.theorems.proofs.Image.{image-decode, image-sized}
 use Rattle.words.specs.Words.{padded}
 use Rattle.words.proofs.Laws.{padded-length}
-use Rattle.slots.specs.Slots.{Packed, slotsOf, slotsAt, Elder, Changed, Written, Placed, readOld, ReadBy, pointer}
+use Rattle.slots.specs.Slots.{Packed, slotsOf, slotsAt, Elder, Changed, Written, Placed, readOld, ReadBy}
+use Rattle.trace.specs.Words.{pointer}
 use Rattle.slots.specs.declared.Old.{Old}
 use Rattle.slots.proofs.Counts.{packed-is, elder-is, slots-length}
 use Rattle.slots.proofs.Parts.{lent, returned, lent-is, lent-length, returned-is}

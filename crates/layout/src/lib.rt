@@ -13,7 +13,8 @@ ghost use Rattle.model.specs.Image.{decode};
 ghost use Rattle.model.specs.Elder.{keep};
 ghost use Rattle.model.specs.Collector.{holds, swapCell, read};
 ghost use Rattle.theorems.specs.Fit.{Image};
-ghost use Rattle.slots.specs.Slots.{ReadBy, pointer, members};
+ghost use Rattle.trace.specs.Words.{pointer, members};
+ghost use Rattle.slots.specs.Slots.{ReadBy};
 ghost use Rattle.layout.specs.Elder.{Turned, WrittenIn, PlacedIn, fitAnswer, fitFor, fitWords};
 
 // The elder's cell at (base, offset).
@@ -108,7 +109,7 @@ pub fn put_blank(image: &mut [u64], b: usize, len: usize)
 // The elder keeps the allocations whose pointers are among the count triples of list.
 pub fn keep_members(image: &mut [u64], list: &[u64], count: usize)
     requires { ⌜ Image (now image) (decode (now image)) ⌝ }
-    requires { ⌜ count * 3 ≤ length (now list) ⌝ }
+    requires { ⌜ 3 * count ≤ length (now list) ⌝ }
     ensures { λ _. ⌜ Turned (keep (members count (now (list .entry))) 0) (now (image .entry)) (now (image .exit)) ⌝ }
 {
     let l = places::layout_of(image);

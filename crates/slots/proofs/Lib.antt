@@ -6,5 +6,4 @@ pub mod Swaps
 pub mod Swapped
 pub mod Places
 pub mod Writes
-pub mod Finds
 pub mod Packs

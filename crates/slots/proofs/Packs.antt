@@ -9,13 +9,15 @@ use native.Mathlib.Omega.{arith}
 use lib.ListN.{length, getD, set, take, drop, replicate, length-append, length-drop, length-set, List·getD-map, drop-of-length-le, take-append-drop}
 use lib.Seq.{paste, paste-zero, set-getD, length-take-le, set-at, drop-drop, drop-cons, getD-take, getD-at, take-all, take-paste, length-paste}
 use Rattle.model.specs.Lists.{flat, onlyIf}
-use Rattle.model.specs.Records.{Ptr, Cell, cellWords}
+use Rattle.model.specs.Reach.{mem}
+use Rattle.model.specs.Records.{Ptr, Cell, cellWords, whole, samePtr}
 use Rattle.model.specs.Heap.{inUse}
 use Rattle.model.specs.Elder.{keeps, keep}
 use Rattle.theorems.proofs.Contents.{valid-all, all-valid, keep-from}
 use Rattle.theorems.proofs.Elder.{flat-keep, keep-length}
 use Rattle.words.specs.Words.{padded}
 use Rattle.words.proofs.Laws.{drop-past, zeroed}
+use Rattle.trace.specs.Words.{pointer}
 use Rattle.slots.specs.Slots.{Elder, Changed, between, stepped, steppedTo}
 use Rattle.slots.proofs.Flat.{flat-append, words-append, use-next, use-take, use-split, map-set}
 use Rattle.slots.proofs.Counts.{packed-rest, slots-length}
@@ -25,6 +27,11 @@ use Rattle.slots.proofs.Places.{at-slot}
 
 -- `pack_one`
 
+-- `keeps`, as `trace::find` answers it
+pub keeps-is : (ps : List Ptr) (b : ℕ) → mem samePtr (pointer 1 b 0) ps ≡ keeps ps b
+unfolding keeps whole
+keeps-is ps b = refl
+
 module _ (w : List ℕ) (at b src dst : ℕ) where
   pub step-none : (t : Bool) → at ≤ length w → 3 * getD w b 0 ≡ 0 → w ≡ stepped t at b src dst (getD w b 0 * 3) w
   unfolding stepped
@@ -33,16 +40,16 @@ module _ (w : List ℕ) (at b src dst : ℕ) where
       rw (none, ← paste-zero (drop at w) dst (drop src (drop at w))) (sym (take-append-drop at w))
   step-none false h e = let none : 0 ≡ getD w b 0 = omega arith in rw (none, set-getD w b 0)
 
-  pub step-keep : {r t : Bool} → r ≡ t → r ≡ true → at ≤ length w → {ys : List ℕ} → ys ≡ paste (lent at w) dst (drop src (lent at w)) (3 * getD w b 0)
-      → returned at w ys ≡ stepped t at b src dst (getD w b 0 * 3) w
+  pub step-keep : (ps : List Ptr) {r : Bool} → r ≡ mem samePtr (pointer 1 b 0) ps → r ≡ true → at ≤ length w → {ys : List ℕ} → ys ≡ paste (lent at w) dst (drop src (lent at w)) (3 * getD w b 0)
+      → returned at w ys ≡ stepped (keeps ps b) at b src dst (getD w b 0 * 3) w
   unfolding stepped
-  step-keep e q h {ys} p =
+  step-keep ps e q h {ys} p =
       let x : 3 * getD w b 0 ≡ getD w b 0 * 3 = omega arith in
-      rw (← e, q, returned-is w at h ys, p, lent-is w at h, x)
+      rw (← keeps-is ps b, ← e, q, returned-is w at h ys, p, lent-is w at h, x)
 
-  pub step-drop : {r t : Bool} → r ≡ t → r ≡ false → set w b 0 ≡ stepped t at b src dst (getD w b 0 * 3) w
+  pub step-drop : (ps : List Ptr) {r : Bool} → r ≡ mem samePtr (pointer 1 b 0) ps → r ≡ false → set w b 0 ≡ stepped (keeps ps b) at b src dst (getD w b 0 * 3) w
   unfolding stepped
-  step-drop e q = rw (← e, q)
+  step-drop ps e q = rw (← keeps-is ps b, ← e, q)
 
   -- the move's room in the tail
 
@@ -59,13 +66,13 @@ module _ (w : List ℕ) (at b src dst : ℕ) where
   to-none true e = omega arith
   to-none false e = refl
 
-  pub to-keep : {r t : Bool} → r ≡ t → r ≡ true → dst + 3 * getD w b 0 ≡ steppedTo t dst (getD w b 0 * 3)
+  pub to-keep : (ps : List Ptr) {r : Bool} → r ≡ mem samePtr (pointer 1 b 0) ps → r ≡ true → dst + 3 * getD w b 0 ≡ steppedTo (keeps ps b) dst (getD w b 0 * 3)
   unfolding steppedTo
-  to-keep e q = rw (← e, q) (omega arith)
+  to-keep ps e q = rw (← keeps-is ps b, ← e, q) (omega arith)
 
-  pub to-drop : {r t : Bool} → r ≡ t → r ≡ false → dst ≡ steppedTo t dst (getD w b 0 * 3)
+  pub to-drop : (ps : List Ptr) {r : Bool} → r ≡ mem samePtr (pointer 1 b 0) ps → r ≡ false → dst ≡ steppedTo (keeps ps b) dst (getD w b 0 * 3)
   unfolding steppedTo
-  to-drop e q = rw (← e, q)
+  to-drop ps e q = rw (← keeps-is ps b, ← e, q)
 
 -- `keep`, one slot more
 

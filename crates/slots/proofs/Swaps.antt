@@ -18,7 +18,8 @@ use Rattle.theorems.proofs.Cells.{kindWord, payloadWord, offsetWord, cell-back}
 use Rattle.theorems.proofs.Contents.{valid-all, all-valid, valid-swap}
 use Rattle.theorems.proofs.Lists.{take-in, drop-in}
 use Rattle.theorems.proofs.Members.{samePtr-eq, samePtr-refl}
-use Rattle.slots.specs.Slots.{pointer, Swapped, SwappedAt}
+use Rattle.trace.specs.Words.{pointer}
+use Rattle.slots.specs.Slots.{Swapped, SwappedAt}
 use Rattle.slots.proofs.Flat.{valid-at, kind-at, payload-at, offset-at, put-cell}
 
 false-of : (t : Bool) → (t ≡ true → ⊥) → t ≡ false

@@ -2,7 +2,7 @@
 use mathlib.Core.Path.{_≡_}
 use mathlib.Core.Bool.{Bool, true, false}
 use mathlib.Core.List.{List, [], _∷_, _++_, map}
-use Prim.Native.Nat.{ℕ, zero, suc, _+_, _*_, _≤_, _<_}
+use Prim.Native.Nat.{ℕ, _+_, _*_, _≤_, _<_}
 use lib.Dec.{ltb}
 use lib.ListN.{length, getD, take, drop, set}
 use lib.Seq.{paste}
@@ -68,9 +68,6 @@ pub record Written (s at b o : ℕ) (w cell v : List ℕ) : Type 0 where
 
 -- a pointer changed in the words of any valid cells
 
-abbrev pub pointer : ℕ → ℕ → ℕ → Ptr
-pointer h b o = record { heap = h; base = b; off = o }
-
 pub record SwappedAt (m : Ptr × ℕ) (i : ℕ) (w v : List ℕ) (r : Bool) : Type 0 where
   pub swapped : (cs : List Cell) → i < length cs → allValid cs ≡ true → w ≡ cellWords cs → (v ≡ cellWords (set cs i (swapCell m (getD cs i blank)))) × (r ≡ holds (m .0) (getD cs i blank))
 
@@ -81,11 +78,6 @@ pub record Swapped (m : Ptr × ℕ) (n : ℕ) (w v : List ℕ) (r : ℕ) : Type 
 -- the words src placed at base b, whatever cells they are
 pub record Placed (s at b : ℕ) (w src v : List ℕ) : Type 0 where
   pub placed : (cs : List Cell) → src ≡ cellWords cs → allValid cs ≡ true → Changed s at w v (set (slotsAt s at w) b cs)
-
--- the first n triples of a list, as pointers
-unfoldable pub members : ℕ → List ℕ → List Ptr
-members zero l = []
-members (suc n) l = pointer (getD l 0 0) (getD l 1 0) (getD l 2 0) ∷ members n (drop 3 l)
 
 -- one slot of n words is kept, its words moved from src to dst, or dropped
 

@@ -7,11 +7,12 @@ ghost use mathlib.Core.List.{[], map};
 ghost use Prim.Native.Nat.{_+_, _-_, _*_, _^_, _≤_, _<_};
 ghost use lib.ListN.{length, getD, take, set, replicate};
 ghost use Rattle.model.specs.Lists.{keepIf, flat, places, sum};
-ghost use Rattle.model.specs.Records.{blank, whole, samePtr};
+ghost use Rattle.model.specs.Records.{blank};
 ghost use Rattle.model.specs.Heap.{inUse};
 ghost use Rattle.model.specs.Elder.{keeps, keep};
 ghost use Rattle.model.specs.Collector.{holds, swapCell};
-ghost use Rattle.slots.specs.Slots.{Packed, slotsOf, slotsAt, Elder, Changed, readOld, ReadBy, pointer, Written, Swapped, SwappedAt, Placed, members, stepped, steppedTo};
+ghost use Rattle.trace.specs.Words.{pointer, members};
+ghost use Rattle.slots.specs.Slots.{Packed, slotsOf, slotsAt, Elder, Changed, readOld, ReadBy, Written, Swapped, SwappedAt, Placed, stepped, steppedTo};
 
 // ---- Lengths
 
@@ -203,36 +204,6 @@ pub fn place_blank(w: &mut [u64], s: usize, at: usize, b: usize, len: usize)
 
 // ---- What is no member is dropped
 
-// Is the i-th triple of list (1, b, 0)?
-fn is_at(list: &[u64], i: usize, b: u64) -> bool
-    requires { ⌜ i * 3 + 2 < length (now list) ⌝ }
-    ensures { λ r. ⌜ r ≡ samePtr (whole 1 b) (pointer (getD (now (list .entry)) (i * 3) 0) (getD (now (list .entry)) (i * 3 + 1) 0) (getD (now (list .entry)) (i * 3 + 2) 0)) ⌝ }
-{
-    let at = 3 * i;
-    if list[at] != 1 {
-        return false;
-    }
-    if list[at + 1] != b {
-        return false;
-    }
-    list[at + 2] == 0
-}
-
-// Is (1, b, 0) among the count triples of list?
-pub fn is_member(list: &[u64], count: usize, b: usize) -> bool
-    requires { ⌜ count * 3 ≤ length (now list) ⌝ }
-    ensures { λ r. ⌜ r ≡ keeps (members count (now (list .entry))) b ⌝ }
-{
-    let mut i = 0;
-    while i < count {
-        if is_at(list, i, b as u64) {
-            return true;
-        }
-        i += 1;
-    }
-    false
-}
-
 // How many of the cells' words are read, and how many of them are kept.
 struct Ends {
     src: usize,
@@ -241,7 +212,7 @@ struct Ends {
 
 // Keeps or drops the allocation at b. A base without one costs no search.
 fn pack_one(w: &mut [u64], at: usize, b: usize, ends: Ends, list: &[u64], count: usize) -> Ends
-    requires { ⌜ (b < at) × (at ≤ length (now w)) × (count * 3 ≤ length (now list)) ⌝ }
+    requires { ⌜ (b < at) × (at ≤ length (now w)) × (3 * count ≤ length (now list)) ⌝ }
     requires { ⌜ (ends .dst ≤ ends .src) × (ends .src + getD (now w) b 0 * 3 ≤ length (now w) - at) ⌝ }
     ensures { λ r. ⌜ now (w .exit) ≡ stepped (keeps (members count (now (list .entry))) b) at b (ends .src) (ends .dst) (getD (now (w .entry)) b 0 * 3) (now (w .entry)) ⌝ }
     ensures { λ r. ⌜ (r .src ≡ ends .src + getD (now (w .entry)) b 0 * 3) × (r .dst ≡ steppedTo (keeps (members count (now (list .entry))) b) (ends .dst) (getD (now (w .entry)) b 0 * 3)) ⌝ }
@@ -252,7 +223,7 @@ fn pack_one(w: &mut [u64], at: usize, b: usize, ends: Ends, list: &[u64], count:
     if n == 0 {
         return ends;
     }
-    if is_member(list, count, b) {
+    if trace::find(list, count, 1, b as u64, 0) {
         words::move_words(&mut w[at..], dst, src, n);
         return Ends {
             src: src + n,
@@ -266,7 +237,7 @@ fn pack_one(w: &mut [u64], at: usize, b: usize, ends: Ends, list: &[u64], count:
 // Keeps the allocations whose pointers are among the count triples of list, packed.
 pub fn pack(w: &mut [u64], s: usize, at: usize, list: &[u64], count: usize)
     requires { ⌜ Elder s at (now w) (slotsAt s at (now w)) ⌝ }
-    requires { ⌜ count * 3 ≤ length (now list) ⌝ }
+    requires { ⌜ 3 * count ≤ length (now list) ⌝ }
     ensures { λ _. ⌜ Changed s at (now (w .entry)) (now (w .exit)) (keep (members count (now (list .entry))) 0 (slotsAt s at (now (w .entry)))) ⌝ }
 {
     let mut ends = Ends { src: 0, dst: 0 };

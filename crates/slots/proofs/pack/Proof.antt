@@ -1,6 +1,7 @@
 use Prim.Native.Nat.{_-_}
 use borrow.Author.Needs.{needs}
-use Rattle.slots.specs.Slots.{slotsAt, members}
+use Rattle.trace.specs.Words.{members}
+use Rattle.slots.specs.Slots.{slotsAt}
 use Rattle.slots.proofs.Packs.{Packing, packs}
 use Rattle.slots.proofs.pack.Statement.{statement}
 use Rattle.slots.proofs.pack.Tie as tie

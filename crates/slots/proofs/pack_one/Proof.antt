@@ -15,8 +15,8 @@ mul-n-2 c = search needs
 returns : tie.Need-returns
 returns c = (search (packs, needs), (search needs, search (packs, needs)))
 
-is-member-requires : tie.Need-is-member-requires
-is-member-requires c κs = search needs
+find-requires : tie.Need-find-requires
+find-requires c κs = search needs
 
 mul-move-words : tie.Need-mul-move-words
 mul-move-words c = search needs
@@ -68,7 +68,7 @@ pack-one-spec =
     slice-read-n
     mul-n-2
     returns
-    is-member-requires
+    find-requires
     mul-move-words
     sub-move-words
     part-move-words-start

@@ -1,7 +1,7 @@
 use mathlib.Core.Logic.{⊎-elim}
 use Prim.Native.Nat.{_-_}
 use borrow.Author.Needs.{needs}
-use Rattle.slots.specs.Slots.{pointer}
+use Rattle.trace.specs.Words.{pointer}
 use Rattle.slots.proofs.Swaps.{Swapping, swap-found, swap-missed, swaps}
 use Rattle.slots.proofs.swap_cells.Statement.{statement}
 use Rattle.slots.proofs.swap_cells.Tie as tie

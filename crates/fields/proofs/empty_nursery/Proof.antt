@@ -1,0 +1,37 @@
+use borrow.Author.Needs.{needs}
+use native.Mathlib.Omega.{arith}
+use Rattle.theorems.proofs.Barrier.{absent-fit}
+use Rattle.fields.proofs.Parts.{most-is}
+use Rattle.fields.proofs.Turned.{next-image, emptied-turns}
+use Rattle.fields.proofs.empty_nursery.Statement.{statement}
+use Rattle.fields.proofs.empty_nursery.Tie as tie
+
+young-collections-requires : tie.Need-young-collections-requires
+young-collections-requires c κs = search needs
+
+add-collections : tie.Need-add-collections
+add-collections c = omega (arith, most-is, c .before .before .before .pre .1 .0, c .young-collections .ensures .reads _ (c .before .before .before .pre .0))
+
+promotions-requires : tie.Need-promotions-requires
+promotions-requires c κs = search needs
+
+add-moved : tie.Need-add-moved
+add-moved c = omega (arith, most-is, c .before .before .before .before .before .pre .1 .1, c .promotions .ensures .reads _ (c .before .before .before .before .before .pre .0))
+
+new-requires : tie.Need-new-requires
+new-requires c κs = search needs
+
+put-young-barrier-requires : tie.Need-put-young-barrier-requires
+put-young-barrier-requires c κs = (c .before .before .before .before .before .before .before .pre .0, rw (c .new .ensures) absent-fit)
+
+restart-requires : tie.Need-restart-requires
+restart-requires c κs = (next-image (c .before .before .before .put-young-barrier .ensures) (c .before .before .before .before .before .before .before .before .before .before .before .pre .0), (omega (arith, c .before .before .before .before .before .before .before .before .before .before .before .pre .1 .0, c .before .before .before .before .before .before .before .before .young-collections .ensures .reads _ (c .before .before .before .before .before .before .before .before .before .before .before .pre .0)), omega (arith, c .before .before .before .before .before .before .before .before .before .before .before .pre .1 .1, c .before .before .before .before .before .before .promotions .ensures .reads _ (c .before .before .before .before .before .before .before .before .before .before .before .pre .0))))
+
+same-length : tie.Need-same-length
+same-length c = search needs
+
+returns : tie.Need-returns
+returns c = emptied-turns _ (c .before .before .before .before .before .before .before .before .before .before .before .young-collections .ensures) (c .before .before .before .before .before .before .before .before .before .promotions .ensures) (c .before .before .before .before .before .before .before .new .ensures) (c .before .before .before .before .before .before .put-young-barrier .ensures) (c .before .before .restart .ensures)
+
+pub empty-nursery-spec : {M : Type 1} → statement M
+empty-nursery-spec = tie.close (tie.spec young-collections-requires add-collections promotions-requires add-moved new-requires put-young-barrier-requires restart-requires same-length returns)
