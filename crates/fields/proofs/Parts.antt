@@ -1,8 +1,7 @@
 -- The parts of an image: where they stand, what they are, and the whole with other words in the place of one.
 use mathlib.Core.Path.{_≡_, refl, sym, ap, _∙_}
-use mathlib.Core.Bool.{true}
-use mathlib.Core.List.{List, [], _∷_, _++_, map}
-use Prim.Native.Nat.{ℕ, _+_, _-_, _*_, _≤_, _<_}
+use mathlib.Core.List.{List, [], _++_}
+use Prim.Native.Nat.{ℕ, _+_, _-_, _≤_, _<_}
 use native.Mathlib.Omega.{arith}
 use lib.ListN.{length, getD, take, drop, set, length-append, length-take}
 use lib.Seq.{drop-drop}
@@ -11,11 +10,11 @@ use Rattle.model.specs.Lists.{flat, sum}
 use Rattle.model.specs.Records.{cellWords}
 use Rattle.model.specs.Barrier.{cache, most, counts}
 use Rattle.model.specs.Heap.{Heap}
-use Rattle.model.specs.Image.{flag, encode, decode}
+use Rattle.model.specs.Image.{encode, decode}
 use Rattle.theorems.specs.Fit.{Image}
 use Rattle.theorems.proofs.Image.{regionsOf, fit-shape, image-decode, image-sized}
 use Rattle.theorems.proofs.Parts.{startOf, part-at, part-put, header, partsOf, encode-parts}
-use Rattle.image.specs.Places.{sizeN, sizeS, youngCountsAt, oldCountsAt, lengthsAt, slotLengthsAt, youngCellsAt, oldCellsAt, Sized}
+use Rattle.image.specs.Places.{sizeN, sizeS, youngCountsAt, oldCountsAt, lengthsAt, slotLengthsAt, Sized}
 use Rattle.image.proofs.Bounds.{is-sized}
 use Rattle.fields.specs.Fields.{Reads, YoungCells}
 use Rattle.fields.specs.declared.Part.{Part}

@@ -2,7 +2,7 @@
 use mathlib.Core.Path.{_≡_, refl, sym, ap, _∙_}
 use mathlib.Core.Bool.{true}
 use mathlib.Core.Logic.{⊎-elim}
-use mathlib.Core.List.{List, [], _∷_, _++_, map}
+use mathlib.Core.List.{List, [], _∷_}
 use Prim.Native.Nat.{ℕ, zero, suc, _+_, _-_, _*_, _≤_, _<_}
 use native.Mathlib.Nat.{not-suc-le-zero, le-of-suc-le-suc, sub-zero}
 use native.Mathlib.Numerals.{add-one}
@@ -11,10 +11,10 @@ use lib.ListN.{length, getD, take, drop, set, replicate, length-set, length-repl
 use lib.Seq.{paste}
 use borrow.Rule.Slice.PartMut.{putMid, set-mid-at}
 use Rattle.model.specs.Lists.{flat}
-use Rattle.model.specs.Records.{Cell, blank, cellWords, cellOf, valid, allValid, wholeCells}
+use Rattle.model.specs.Records.{Cell, blank, cellWords, valid, allValid, wholeCells}
 use Rattle.model.specs.Barrier.{Barrier, absent, cache, most, counts}
 use Rattle.model.specs.Heap.{Nursery, Elder, Heap, fresh}
-use Rattle.model.specs.Image.{flag, barrier, encode, decode, flagged, cursorIn, tiles}
+use Rattle.model.specs.Image.{flag, barrier, encode, decode, flagged}
 use Rattle.model.specs.Nursery.{bump, emptied}
 use Rattle.theorems.specs.Fit.{FitBarrier, FitNursery, FitElder, Fit, Image}
 use Rattle.theorems.specs.Does.{withYoung, withOld}
@@ -22,11 +22,10 @@ use Rattle.theorems.proofs.Lists.{and-left}
 use Rattle.theorems.proofs.Cells.{kindWord, payloadWord, offsetWord, words-cons, words-length, cell-words, cell-valid}
 use Rattle.theorems.proofs.Contents.{cell-set-from, valid-all, all-valid}
 use Rattle.theorems.proofs.Tiles.{zeros-tiled}
-use Rattle.theorems.proofs.Barrier.{absent-fit}
 use Rattle.theorems.proofs.Regions.{barrier-back, fit-flagged}
 use Rattle.theorems.proofs.Image.{fresh-fit, image-decode}
 use Rattle.theorems.proofs.Parts.{header, partsOf, encode-parts}
-use Rattle.theorems.proofs.Collect.{bump-fit, emptied-fit}
+use Rattle.theorems.proofs.Collect.{bump-fit}
 use Rattle.words.specs.Words.{padded}
 use Rattle.value.specs.declared.Words.{Words}
 use Rattle.image.specs.Places.{sizeN, youngCountsAt, oldCountsAt, lengthsAt, slotLengthsAt, youngCellsAt, oldCellsAt}

@@ -30,4 +30,14 @@ returns : tie.Need-returns
 returns c = bump-turns _ (c .cursor .ensures) (c .before .before .before .pre .1 .1) (c .before .before .before .pre .1 .0)
 
 pub bump-spec : {M : Type 1} → statement M
-bump-spec = tie.close (tie.spec cursor-requires add-image mul-image slice-write-image add-image-2 slice-write-image-2 same-length returns)
+bump-spec =
+    tie.close
+    (tie.spec
+    cursor-requires
+    add-image
+    mul-image
+    slice-write-image
+    add-image-2
+    slice-write-image-2
+    same-length
+    returns)

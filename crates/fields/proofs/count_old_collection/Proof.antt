@@ -21,4 +21,11 @@ returns : tie.Need-returns
 returns c = counted-turns (c .old-collections .ensures) (c .before .before .before .pre .1)
 
 pub count-old-collection-spec : {M : Type 1} → statement M
-count-old-collection-spec = tie.close (tie.spec old-collections-requires add-image slice-write-image same-length returns)
+count-old-collection-spec =
+    tie.close
+    (tie.spec
+    old-collections-requires
+    add-image
+    slice-write-image
+    same-length
+    returns)

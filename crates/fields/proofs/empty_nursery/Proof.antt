@@ -10,13 +10,19 @@ young-collections-requires : tie.Need-young-collections-requires
 young-collections-requires c κs = search needs
 
 add-collections : tie.Need-add-collections
-add-collections c = omega (arith, most-is, c .before .before .before .pre .1 .0, c .young-collections .ensures .reads _ (c .before .before .before .pre .0))
+add-collections c =
+    let pre = c .before .before .before .pre in
+    let collections = c .young-collections .ensures in
+    omega (arith, most-is, pre .1 .0, collections .reads _ (pre .0))
 
 promotions-requires : tie.Need-promotions-requires
 promotions-requires c κs = search needs
 
 add-moved : tie.Need-add-moved
-add-moved c = omega (arith, most-is, c .before .before .before .before .before .pre .1 .1, c .promotions .ensures .reads _ (c .before .before .before .before .before .pre .0))
+add-moved c =
+    let pre = c .before .before .before .before .before .pre in
+    let promotions = c .promotions .ensures in
+    omega (arith, most-is, pre .1 .1, promotions .reads _ (pre .0))
 
 new-requires : tie.Need-new-requires
 new-requires c κs = search needs
@@ -25,13 +31,31 @@ put-young-barrier-requires : tie.Need-put-young-barrier-requires
 put-young-barrier-requires c κs = (c .before .before .before .before .before .before .before .pre .0, rw (c .new .ensures) absent-fit)
 
 restart-requires : tie.Need-restart-requires
-restart-requires c κs = (next-image (c .before .before .before .put-young-barrier .ensures) (c .before .before .before .before .before .before .before .before .before .before .before .pre .0), (omega (arith, c .before .before .before .before .before .before .before .before .before .before .before .pre .1 .0, c .before .before .before .before .before .before .before .before .young-collections .ensures .reads _ (c .before .before .before .before .before .before .before .before .before .before .before .pre .0)), omega (arith, c .before .before .before .before .before .before .before .before .before .before .before .pre .1 .1, c .before .before .before .before .before .before .promotions .ensures .reads _ (c .before .before .before .before .before .before .before .before .before .before .before .pre .0))))
+restart-requires c κs =
+    let pre = c .before .before .before .before .before .before .before .before .before .before .before .pre in
+    let collections = c .before .before .before .before .before .before .before .before .young-collections .ensures in
+    let promotions = c .before .before .before .before .before .before .promotions .ensures in
+    (next-image (c .before .before .before .put-young-barrier .ensures) (pre .0), (omega (arith, pre .1 .0, collections .reads _ (pre .0)), omega (arith, pre .1 .1, promotions .reads _ (pre .0))))
 
 same-length : tie.Need-same-length
 same-length c = search needs
 
 returns : tie.Need-returns
-returns c = emptied-turns _ (c .before .before .before .before .before .before .before .before .before .before .before .young-collections .ensures) (c .before .before .before .before .before .before .before .before .before .promotions .ensures) (c .before .before .before .before .before .before .before .new .ensures) (c .before .before .before .before .before .before .put-young-barrier .ensures) (c .before .before .restart .ensures)
+returns c =
+    let collections = c .before .before .before .before .before .before .before .before .before .before .before .young-collections .ensures in
+    let promotions = c .before .before .before .before .before .before .before .before .before .promotions .ensures in
+    emptied-turns _ collections promotions (c .before .before .before .before .before .before .before .new .ensures) (c .before .before .before .before .before .before .put-young-barrier .ensures) (c .before .before .restart .ensures)
 
 pub empty-nursery-spec : {M : Type 1} → statement M
-empty-nursery-spec = tie.close (tie.spec young-collections-requires add-collections promotions-requires add-moved new-requires put-young-barrier-requires restart-requires same-length returns)
+empty-nursery-spec =
+    tie.close
+    (tie.spec
+    young-collections-requires
+    add-collections
+    promotions-requires
+    add-moved
+    new-requires
+    put-young-barrier-requires
+    restart-requires
+    same-length
+    returns)

@@ -24,4 +24,12 @@ returns : tie.Need-returns
 returns c = old-read (c .load .ensures)
 
 pub old-barrier-spec : {M : Type 1} → statement M
-old-barrier-spec = tie.close (tie.spec shared-slice-read-load sub-load part-load-start part-load-end load-requires returns)
+old-barrier-spec =
+    tie.close
+    (tie.spec
+    shared-slice-read-load
+    sub-load
+    part-load-start
+    part-load-end
+    load-requires
+    returns)

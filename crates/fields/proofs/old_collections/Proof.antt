@@ -9,7 +9,7 @@ shared-slice-read-result c = omega (arith, sized-in (c .before .pre) .long)
 
 returns : tie.Need-returns
 unfolding encode
-returns c = word-is 7
+returns c = word-is _
 
 pub old-collections-spec : {M : Type 1} → statement M
 old-collections-spec = tie.close (tie.spec shared-slice-read-result returns)

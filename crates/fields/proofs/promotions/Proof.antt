@@ -9,7 +9,7 @@ shared-slice-read-result c = omega (arith, sized-in (c .before .pre) .long)
 
 returns : tie.Need-returns
 unfolding encode
-returns c = word-is 6
+returns c = word-is _
 
 pub promotions-spec : {M : Type 1} → statement M
 promotions-spec = tie.close (tie.spec shared-slice-read-result returns)

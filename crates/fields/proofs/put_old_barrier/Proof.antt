@@ -30,4 +30,14 @@ returns : tie.Need-returns
 returns c = old-put (c .before .before .before .before .before .before .pre .1) (c .before .before .before .store .ensures) (c .flag-word .ensures)
 
 pub put-old-barrier-spec : {M : Type 1} → statement M
-put-old-barrier-spec = tie.close (tie.spec sub-store part-store-start part-store-end store-requires flag-word-requires slice-write-image same-length returns)
+put-old-barrier-spec =
+    tie.close
+    (tie.spec
+    sub-store
+    part-store-start
+    part-store-end
+    store-requires
+    flag-word-requires
+    slice-write-image
+    same-length
+    returns)

@@ -21,16 +21,33 @@ part-copy-words-end : tie.Need-part-copy-words-end
 part-copy-words-end c = search needs
 
 mul-copy-words-2 : tie.Need-mul-copy-words-2
-mul-copy-words-2 c = omega (arith, n-is (c .before .before .before .before .before .pre .0), sized-in (c .before .before .before .before .before .pre .0) .bounds .n, c .before .before .before .before .before .pre .1 .0)
+mul-copy-words-2 c =
+    let pre = c .before .before .before .before .before .pre in
+    omega (arith, n-is (pre .0), sized-in (pre .0) .bounds .n, pre .1 .0)
 
 copy-words-requires : tie.Need-copy-words-requires
-copy-words-requires c κs = omega (arith, cell-room _ (c .before .young-part .ensures) (c .before .before .before .before .before .args .i) (c .before .before .before .before .before .pre .1 .0) (c .before .before .before .before .before .pre .0), c .before .before .before .before .before .pre .1 .1 .0)
+copy-words-requires c κs =
+    let pre = c .before .before .before .before .before .pre in
+    omega (arith, cell-room _ (c .before .young-part .ensures) (c .before .before .before .before .before .args .i) (pre .1 .0) (pre .0), pre .1 .1 .0)
 
 same-length : tie.Need-same-length
 same-length c = search needs
 
 returns : tie.Need-returns
-returns c = cell-put _ (c .before .before .before .before .young-part .ensures) (c .before .before .before .before .before .before .before .before .args .i) (c .before .before .before .before .before .before .before .before .pre .1 .0) _ (c .before .before .before .before .before .before .before .before .pre .1 .1 .0) (c .before .before .before .before .before .before .before .before .pre .1 .1 .1) (c .before .before .copy-words .ensures)
+returns c =
+    let pre = c .before .before .before .before .before .before .before .before .pre in
+    cell-put _ (c .before .before .before .before .young-part .ensures) (c .before .before .before .before .before .before .before .before .args .i) (pre .1 .0) _ (pre .1 .1 .0) (pre .1 .1 .1) (c .before .before .copy-words .ensures)
 
 pub put-young-cell-spec : {M : Type 1} → statement M
-put-young-cell-spec = tie.close (tie.spec young-part-requires mul-copy-words sub-copy-words part-copy-words-start part-copy-words-end mul-copy-words-2 copy-words-requires same-length returns)
+put-young-cell-spec =
+    tie.close
+    (tie.spec
+    young-part-requires
+    mul-copy-words
+    sub-copy-words
+    part-copy-words-start
+    part-copy-words-end
+    mul-copy-words-2
+    copy-words-requires
+    same-length
+    returns)

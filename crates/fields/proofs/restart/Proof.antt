@@ -9,7 +9,10 @@ size-n-requires : tie.Need-size-n-requires
 size-n-requires c κs = search needs
 
 slot-lengths-requires : tie.Need-slot-lengths-requires
-slot-lengths-requires c κs = omega (arith, n-read (c .before .before .before .pre .0) (c .size-n .ensures), sized-in (c .before .before .before .pre .0) .bounds .n)
+slot-lengths-requires c κs =
+    let pre = c .before .before .before .pre in
+    let n = c .size-n .ensures in
+    omega (arith, n-read (pre .0) n, sized-in (pre .0) .bounds .n)
 
 sub-zero-from : tie.Need-sub-zero-from
 sub-zero-from c = search needs
@@ -18,7 +21,10 @@ part-zero-from-start : tie.Need-part-zero-from-start
 part-zero-from-start c = search needs
 
 part-zero-from-end : tie.Need-part-zero-from-end
-part-zero-from-end c = omega (arith, n-read (c .before .before .before .before .pre .0) (c .before .size-n .ensures), sized-in (c .before .before .before .before .pre .0) .long)
+part-zero-from-end c =
+    let pre = c .before .before .before .before .pre in
+    let n = c .before .size-n .ensures in
+    omega (arith, n-read (pre .0) n, sized-in (pre .0) .long)
 
 zero-from-requires : tie.Need-zero-from-requires
 zero-from-requires c κs = search needs
@@ -36,7 +42,23 @@ same-length : tie.Need-same-length
 same-length c = search needs
 
 returns : tie.Need-returns
-returns c = restart-turns (c .before .before .before .before .before .size-n .ensures) (c .before .before .before .before .slot-lengths .ensures) (c .before .before .before .before .before .before .before .before .pre .1 .0) (c .before .before .before .before .before .before .before .before .pre .1 .1) (c .before .before .zero-from .ensures)
+returns c =
+    let pre = c .before .before .before .before .before .before .before .before .pre in
+    let n = c .before .before .before .before .before .size-n .ensures in
+    restart-turns n (c .before .before .before .before .slot-lengths .ensures) (pre .1 .0) (pre .1 .1) (c .before .before .zero-from .ensures)
 
 pub restart-spec : {M : Type 1} → statement M
-restart-spec = tie.close (tie.spec size-n-requires slot-lengths-requires sub-zero-from part-zero-from-start part-zero-from-end zero-from-requires slice-write-image slice-write-image-2 slice-write-image-3 same-length returns)
+restart-spec =
+    tie.close
+    (tie.spec
+    size-n-requires
+    slot-lengths-requires
+    sub-zero-from
+    part-zero-from-start
+    part-zero-from-end
+    zero-from-requires
+    slice-write-image
+    slice-write-image-2
+    slice-write-image-3
+    same-length
+    returns)

@@ -24,4 +24,12 @@ returns : tie.Need-returns
 returns c = young-read (c .load .ensures)
 
 pub young-barrier-spec : {M : Type 1} → statement M
-young-barrier-spec = tie.close (tie.spec shared-slice-read-load sub-load part-load-start part-load-end load-requires returns)
+young-barrier-spec =
+    tie.close
+    (tie.spec
+    shared-slice-read-load
+    sub-load
+    part-load-start
+    part-load-end
+    load-requires
+    returns)

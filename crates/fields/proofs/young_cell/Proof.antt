@@ -25,4 +25,13 @@ returns : tie.Need-returns
 returns c = cell-read _ (c .before .before .young-part .ensures) _ (c .before .before .before .before .pre .1) _ (c .cell-at .ensures)
 
 pub young-cell-spec : {M : Type 1} → statement M
-young-cell-spec = tie.close (tie.spec young-part-requires mul-cell-at sub-cell-at part-cell-at-start part-cell-at-end cell-at-requires returns)
+young-cell-spec =
+    tie.close
+    (tie.spec
+    young-part-requires
+    mul-cell-at
+    sub-cell-at
+    part-cell-at-start
+    part-cell-at-end
+    cell-at-requires
+    returns)

@@ -9,7 +9,7 @@ shared-slice-read-result c = omega (arith, sized-in (c .before .pre) .long)
 
 returns : tie.Need-returns
 unfolding encode
-returns c = word-is 5
+returns c = word-is _
 
 pub young-collections-spec : {M : Type 1} → statement M
 young-collections-spec = tie.close (tie.spec shared-slice-read-result returns)

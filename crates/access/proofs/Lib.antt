@@ -1,0 +1,4 @@
+pub mod Sums
+pub mod Cells
+pub mod Answers
+pub mod Writes

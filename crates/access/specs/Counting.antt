@@ -1,0 +1,47 @@
+-- What a write counts, and what it leaves.
+use mathlib.Core.Bool.{Bool, true, false, not}
+use mathlib.Core.List.{List}
+use Prim.Native.Nat.{ℕ}
+use lib.Dec.{eqb}
+use Rattle.model.specs.Res.{Res, ok, refuse, _>>=_}
+use Rattle.model.specs.Records.{Cell, plain, ref}
+use Rattle.model.specs.Barrier.{Barrier, countIn, countOut}
+use Rattle.model.specs.Heap.{Heap}
+use Rattle.model.specs.Collector.{writeYoung, writeOld}
+use Rattle.theorems.specs.Fit.{Image}
+use Rattle.theorems.specs.Does.{withYoung, withOld}
+use Rattle.fields.specs.Fields.{onYoung, onOld, withBar, withOldBar}
+use Rattle.access.specs.declared.Stored.{Stored}
+use Rattle.access.specs.declared.Stored.the-variants.{Done, Refused}
+
+-- a pointer to another heap than own
+unfoldable pub across : ℕ → Cell → Bool
+across own (plain k v) = false
+across own (ref p) = not (eqb (p .heap) own)
+
+abbrev pub outIf : Bool → ℕ → Cell → Barrier → Res Barrier
+outIf true own c b = countOut own c b
+outIf false own c b = ok b
+
+-- the old cell counted out, if it is, then the new one in
+unfoldable pub recounted : ℕ → Bool → Cell → Cell → Barrier → Res Barrier
+recounted own out old new b = outIf out own old b >>= countIn own new
+
+unfoldable pub countYoung : Bool → Cell → Cell → Heap → Res Heap
+countYoung out old new h = recounted 0 out old new (h .young .bar) >>= λ b. ok (onYoung (withBar b) h)
+
+unfoldable pub countOld : Cell → Cell → Heap → Res Heap
+countOld old new h = recounted 1 true old new (h .old .bar) >>= λ b. ok (onOld (withOldBar b) h)
+
+-- a write at a place that is known to be there
+
+unfoldable pub storeYoung : ℕ → Cell → Heap → Res Heap
+storeYoung i c h = writeYoung (h .young) i c >>= λ y. ok (withYoung y h)
+
+unfoldable pub storeOld : ℕ → List Cell → ℕ → Cell → Heap → Res Heap
+storeOld b s o c h = writeOld (h .old) b s o c >>= λ e. ok (withOld e h)
+
+-- the words w became the image of the heap that was answered; a refusal leaves them as they were
+pub data Leaves : Res Heap → List ℕ → Stored → List ℕ → Type 0 where
+  done : {h : Heap} {w v : List ℕ} → Image v h → Leaves (ok h) w Done v
+  kept : {q : ℕ} {w : List ℕ} → Leaves (refuse q) w (Refused q) w
