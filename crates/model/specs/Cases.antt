@@ -27,16 +27,16 @@ use Rattle.model.specs.Command.{opcodes, operandBytes, littleEndian, fie
 -- Images, written out
 
 -- a barrier: absent, or present with these counts, each with its position; all others are zero
-pub data Counts : Type 0 where
+data Counts : Type 0 where
   absent : Counts
   present : List (ℕ × ℕ) → Counts
 
 -- cursor, collections, promotions, barrier, lengths, cells
-pub data Young : Type 0 where
+data Young : Type 0 where
   nursery : ℕ → ℕ → ℕ → Counts → List ℕ → List ℕ → Young
 
 -- collections, barrier, lengths, cells
-pub data Old : Type 0 where
+data Old : Type 0 where
   elder : ℕ → Counts → List ℕ → List ℕ → Old
 
 -- words, some of them changed: position and new word of each
@@ -119,7 +119,7 @@ full = 4294967295
 -- Rows
 
 -- what is tried: a call, the report or a fresh heap on an image; sizes alone; a Float's figure; a command file
-pub data Trial : Type 0 where
+data Trial : Type 0 where
   calls : Call → Trial
   reports : Trial
   makes : Sizes → Trial
@@ -128,12 +128,12 @@ pub data Trial : Type 0 where
   runs : List ℕ → Trial
 
 -- the image before it and after it; its answer, or the question that refuses it; the roots afterwards
-pub record Row : Type 0 where
-  pub before : List ℕ
-  pub trial : Trial
-  pub answer : Res (List ℕ)
-  pub after : List ℕ
-  pub roots : List ℕ
+record Row : Type 0 where
+  before : List ℕ
+  trial : Trial
+  answer : Res (List ℕ)
+  after : List ℕ
+  roots : List ℕ
 
 -- sign (1 for minus) and thousandths
 figureNumbers : Res Figure → Res (List ℕ)
@@ -879,24 +879,16 @@ sizeRows =
     record { before = replicate 594 7; trial = makes usual; answer = ok []; after = clean usual; roots = [] }
     ∷ refuses 1 (replicate 593 7) (makes usual)
     ∷ refuses 1 (replicate 595 7) (makes usual)
-    -- N, T and S at their bounds: 522 + 4 × 2,048 + 8,192 words
-    ∷ record {
-      before = replicate 16906 7;
-      trial = makes (sizes 2048 8192 8192 0);
-      answer = ok [];
-      after = clean (sizes 2048 8192 8192 0);
-      roots = [];
-    }
+    -- each size at its bound, asked of the sizes alone: the image would have 213,514 words
+    ∷ record { before = []; trial = bounds (sizes 2048 8192 8192 65536); answer = ok []; after = []; roots = [] }
     -- each above its bound
     ∷ refuses 1 (replicate 8718 7) (makes (sizes 2049 0 0 0))
     ∷ refuses 1 (replicate 522 7) (makes (sizes 0 8193 0 0))
     ∷ refuses 1 (replicate 8715 7) (makes (sizes 0 0 8193 0))
-    -- C at its bound and above, the sizes alone: the image would have 197,130 words
-    ∷ record { before = []; trial = bounds (sizes 0 0 0 65536); answer = ok []; after = []; roots = [] }
     ∷ refuses 1 [] (bounds (sizes 0 0 0 65537))
     -- the same asked of an image
-    ∷ refuses 1 (clean (sizes 2049 0 0 0)) (wants [] 1)
     ∷ refuses 1 (clean (sizes 4 8193 8 16)) (puts (to 0 0 0) (int 7))
+    ∷ refuses 1 (clean (sizes 4 8193 8 16)) (wants [] 1)
     ∷ refuses 1 (take 593 (clean usual)) reports
     ∷ refuses 1 (clean usual ++ 0 ∷ []) (looks (to 0 0 0))
     -- an image shorter than its four size words
@@ -1124,7 +1116,7 @@ reportRows =
 -- Figures
 figureRows : List Row
 figureRows =
-    -- half away from zero: 0.0625, −0.0625; 0.0005 is just above half a thousandth, the Float below it is not
+    -- half away from zero: −0.0625; 0.0005 is just above half a thousandth, the Float below it is not
     figured 0xBFB0_0000_0000_0000 1 63
     ∷ figured 0x3F40_624D_D2F1_A9FC 0 1
     ∷ figured 0x3F40_624D_D2F1_A9FB 0 0
