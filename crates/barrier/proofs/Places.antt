@@ -1,4 +1,4 @@
--- The masks found one by one, and tried one by one.
+-- The masks found one by one.
 use mathlib.Core.Path.{_≡_, refl, sym, _∙_}
 use mathlib.Core.Bool.{true, false}
 use mathlib.Core.List.{List, [], _∷_, _++_, append-nil}
@@ -9,7 +9,6 @@ use lib.ListN.{length, getD, take, drop, set, length-set, drop-of-length-le}
 use lib.Seq.{drop-cons, append-snoc, take-suc-set}
 use borrow.Author.Tests.{lt-ltb, le-ltb}
 use Rattle.model.specs.Lists.{places}
-use Rattle.model.specs.Barrier.{matchesMask, matches}
 
 -- the first n of ps are the places below i, and those from i on are left
 pub record Found (cs : List ℕ) (i n : ℕ) (ps : List ℕ) : Type 0 where
@@ -48,27 +47,3 @@ module _ {cs ps : List ℕ} {i n : ℕ} (f : Found cs i n ps) (l : length cs ≡
   found-all h =
       let none : drop i cs ≡ [] = drop-of-length-le cs {i = i} (omega arith) in
       sym (append-nil (take n ps)) ∙ (rw none at (f .rest))
-
--- no mask before the i-th matches
-pub record Tried (ms : List ℕ) (base i : ℕ) : Type 0 where
-  pub within : i ≤ length ms
-  pub rest : matches (drop i ms) base ≡ matches ms base
-
-pub tried-none : (ms : List ℕ) (base : ℕ) → Tried ms base 0
-tried-none ms base = record { within = omega arith; rest = refl }
-
-module _ {ms : List ℕ} {base i : ℕ} (t : Tried ms base i) where
-  module _ (h : i < length ms) where
-    pub tried-hit : matchesMask (getD ms i 0) base ≡ true → true ≡ matches ms base
-    unfolding matches
-    tried-hit e = rw (drop-cons ms i 0 h, e) at (t .rest)
-
-    pub tried-miss : matchesMask (getD ms i 0) base ≡ false → Tried ms base (i + 1)
-    unfolding matches
-    tried-miss e = record { within = omega arith; rest = rw add-one (rw (drop-cons ms i 0 h, e) at (t .rest)) }
-
-  pub tried-all : length ms ≤ i → false ≡ matches ms base
-  unfolding matches
-  tried-all h =
-      let none : drop i ms ≡ [] = drop-of-length-le ms {i = i} h in
-      rw none at (t .rest)

@@ -23,6 +23,11 @@ abbrev pub answerOf : Counting → WriteBarrier → Res Barrier
 answerOf Done b = ok (barrierOf b)
 answerOf (Refused q) b = refuse q
 
+-- the answer alone
+unfoldable pub countingAnswer : Counting → Res (Unit {0})
+countingAnswer Done = ok tt
+countingAnswer (Refused q) = refuse q
+
 abbrev pub counted : Counted → Res Barrier
 counted c = answerOf (c .answer) (c .barrier)
 

@@ -29,7 +29,7 @@ module _ {A : Type 0} (f : ℕ → A) where
   unfolding tab
   tab-none i m h = let e : m - i ≡ 0 = omega arith in rw e
 
-  tab-snoc : (i n : ℕ) → tab f i (suc n) ≡ tab f i n ++ f (i + n) ∷ []
+  pub tab-snoc : (i n : ℕ) → tab f i (suc n) ≡ tab f i n ++ f (i + n) ∷ []
   unfolding tab
   tab-snoc i zero = rw add-zero
   tab-snoc i (suc n) = rw (tab-snoc (suc i) n, add-suc, suc-add)
@@ -40,7 +40,7 @@ module _ {A : Type 0} (f : ℕ → A) where
   tab-elem i (suc n) zero h = rw add-zero
   tab-elem i (suc n) (suc k) h = rw (tab-elem (suc i) n k (le-of-suc-le-suc h), add-suc, suc-add)
 
-  tab-ext : (g : ℕ → A) (i n : ℕ) → ((k : ℕ) → k < i + n → f k ≡ g k) → tab f i n ≡ tab g i n
+  pub tab-ext : (g : ℕ → A) (i n : ℕ) → ((k : ℕ) → k < i + n → f k ≡ g k) → tab f i n ≡ tab g i n
   unfolding tab
   tab-ext g i zero h = refl
   tab-ext g i (suc n) h = λ j. h i (omega arith) j ∷ tab-ext g (suc i) n (λ k b. h k (omega arith)) j

@@ -32,8 +32,8 @@ mul-if2 c = search needs
 element-copy-out-if2 : tie.Need-element-copy-out-if2 Inv-loop μ-loop
 element-copy-out-if2 c = search needs
 
-cast-places : tie.Need-cast-places Inv-loop μ-loop
-cast-places c = search needs
+mul-places : tie.Need-mul-places Inv-loop μ-loop
+mul-places c = search needs
 
 array-write-places : tie.Need-array-write-places Inv-loop μ-loop
 array-write-places c = search needs
@@ -70,7 +70,7 @@ of-spec =
     loop-holds
     mul-if2
     element-copy-out-if2
-    cast-places
+    mul-places
     array-write-places
     add-count
     add-i

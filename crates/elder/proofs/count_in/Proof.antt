@@ -1,0 +1,53 @@
+use borrow.Author.Needs.{needs}
+use Rattle.model.specs.Calls.{cellsIn}
+use Rattle.elder.proofs.Placing.{count-fit, count-done, count-refused}
+use Rattle.elder.proofs.count_in.Statement.{statement}
+use Rattle.elder.proofs.count_in.Tie as tie
+
+old-barrier-requires : tie.Need-old-barrier-requires
+old-barrier-requires c κs = search needs
+
+count-cells-in-requires : tie.Need-count-cells-in-requires
+count-cells-in-requires c κs = search needs
+
+enum-told : tie.Need-enum-told
+enum-told c = search needs
+
+put-old-barrier-requires : tie.Need-put-old-barrier-requires
+put-old-barrier-requires c κs =
+    let s = c .before .before .before .before .before .before .before .before .before in
+    let m = c .before .before .before .before in
+    (s .pre .0, count-fit (cellsIn (s .args .src .now)) (m .before .old-barrier .ensures) (m .count-cells-in .result) (m .count-cells-in .ensures) (c .before .before .enum-told .given .1) (s .pre .0))
+
+enum-known-a : tie.Need-enum-known-a
+enum-known-a c = search needs
+
+same-length : tie.Need-same-length
+same-length c = search needs
+
+returns : tie.Need-returns
+returns c =
+    let m = c .before .before .before .before .before .before .before in
+    count-done _ (m .before .old-barrier .ensures) (m .count-cells-in .result) (m .count-cells-in .ensures) (c .before .before .before .before .before .enum-told .given .1) (c .before .before .put-old-barrier .ensures)
+
+same-length-2 : tie.Need-same-length-2
+same-length-2 c = search needs
+
+returns-2 : tie.Need-returns-2
+returns-2 c =
+    let m = c .before .before .before in
+    count-refused _ (m .before .old-barrier .ensures) (m .count-cells-in .result) (m .count-cells-in .ensures) _ (c .before .a .given .1)
+
+pub count-in-spec : {M : Type 1} → statement M
+count-in-spec =
+    tie.close
+    (tie.spec
+    old-barrier-requires
+    count-cells-in-requires
+    enum-told
+    put-old-barrier-requires
+    enum-known-a
+    same-length
+    returns
+    same-length-2
+    returns-2)
