@@ -15,7 +15,7 @@ use Rattle.model.specs.Records.{Ptr, samePtr}
 use Rattle.trace.specs.Words.{tab, pointer, ptrAt, members, stored}
 
 module _ {A : Type 0} (f : ℕ → A) where
-  length-tab : (i n : ℕ) → length (tab f i n) ≡ n
+  pub length-tab : (i n : ℕ) → length (tab f i n) ≡ n
   unfolding tab
   length-tab i zero = refl
   length-tab i (suc n) = ap suc (length-tab (suc i) n)
