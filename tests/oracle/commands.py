@@ -94,3 +94,8 @@ def split(file: bytes) -> list[bytes]:
         parts.append(file[at : at + length])
         at += length
     return parts
+
+
+def without(file: bytes, codes: bytes) -> bytes:
+    """A file whose commands of these bytes are left out."""
+    return b"".join(part for part in split(file) if part[0] not in codes)

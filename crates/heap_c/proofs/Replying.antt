@@ -1,0 +1,94 @@
+-- Replies by the cases of an answer, and carried along equal answers.
+use mathlib.Core.Path.{_≡_, refl, sym, ap, subst, _∙_}
+use mathlib.Core.List.{List, [], _∷_}
+use Prim.Native.Nat.{ℕ}
+use mir.Syntax.{w64}
+use mir.Val.{ofZ}
+use Rattle.model.specs.Res.{Res, ok, refuse, _>>=_}
+use Rattle.model.specs.Records.{Ptr, Cell, cellWords}
+use Rattle.model.specs.Heap.{Heap}
+use Rattle.model.specs.Collector.{read}
+use Rattle.model.specs.Calls.{Outcome, opened, readOn, reads, call}
+use Rattle.value.specs.declared.Value.{Value}
+use Rattle.value.specs.Value.{valueCell}
+use Rattle.image.specs.Answers.{madeOutcome}
+use Rattle.image.specs.declared.Made.{Made}
+use Rattle.image.specs.declared.Made.the-variants as made
+use Rattle.access.specs.Access.{loadedCell, storedOutcome, readIn}
+use Rattle.access.specs.declared.Loaded.{Loaded}
+use Rattle.access.specs.declared.Loaded.the-variants as loaded
+use Rattle.access.specs.declared.Stored.{Stored}
+use Rattle.access.specs.declared.Stored.the-variants as stored
+use Rattle.collector.specs.Alloc.{allocOutcome}
+use Rattle.collector.specs.declared.Allocation.{Allocation}
+use Rattle.collector.specs.declared.Allocated.{Allocated}
+use Rattle.collector.specs.declared.Allocated.the-variants as allocated
+use Rattle.heap_c.specs.Replies.{numberOf, outOf, wordsOf, allocationWords, Answers, Leaves, Allocates}
+
+-- new
+
+pub made-done : {r : Made} → r ≡ made.Done → (v : List ℕ) → Leaves (madeOutcome r v) 0 v
+unfolding numberOf madeOutcome
+made-done e v = subst (λ (r : Made). Leaves (madeOutcome r v) 0 v) (sym e) (record { number = refl; image = refl })
+
+pub made-refused : {r : Made} {q : ℕ} → r ≡ made.Refused q → (v : List ℕ) → Leaves (madeOutcome r v) q v
+unfolding numberOf madeOutcome
+made-refused {q = q} e v = subst (λ (r : Made). Leaves (madeOutcome r v) q v) (sym e) (record { number = refl; image = refl })
+
+-- write
+
+pub stored-done : {r : Stored} → r ≡ stored.Done → (v : List ℕ) → Leaves (storedOutcome r v) 0 v
+unfolding numberOf storedOutcome
+stored-done e v = subst (λ (r : Stored). Leaves (storedOutcome r v) 0 v) (sym e) (record { number = refl; image = refl })
+
+pub stored-refused : {r : Stored} {q : ℕ} → r ≡ stored.Refused q → (v : List ℕ) → Leaves (storedOutcome r v) q v
+unfolding numberOf storedOutcome
+stored-refused {q = q} e v = subst (λ (r : Stored). Leaves (storedOutcome r v) q v) (sym e) (record { number = refl; image = refl })
+
+-- read
+
+pub loaded-value : {r : Loaded} {v : Value} {out before : List ℕ} → r ≡ loaded.Value v → out ≡ cellWords (valueCell v ∷ []) → Answers (wordsOf (loadedCell r)) before 0 out
+unfolding numberOf outOf wordsOf loadedCell
+loaded-value {out = out} {before = before} e f = subst (λ (r : Loaded). Answers (wordsOf (loadedCell r)) before 0 out) (sym e) (record { number = refl; written = f })
+
+pub loaded-refused : {r : Loaded} {q : ℕ} {before : List ℕ} → r ≡ loaded.Refused q → Answers (wordsOf (loadedCell r)) before q before
+unfolding numberOf outOf wordsOf loadedCell
+loaded-refused {q = q} {before = before} e = subst (λ (r : Loaded). Answers (wordsOf (loadedCell r)) before q before) (sym e) (record { number = refl; written = refl })
+
+-- the words of the cell that is read, whether 1 and 2 were asked before or not
+pub read-words : (w : List ℕ) (p : Ptr) → wordsOf (readIn w p) ≡ call (reads p) w .answer
+unfolding wordsOf call readOn
+read-words w p = go (opened w)
+  where
+    go : (r : Res Heap) → wordsOf (r >>= λ h. read h p) ≡ (r >>= λ h. readOn h p)
+    go (ok h) = refl
+    go (refuse q) = refl
+
+-- alloc
+
+pub words-in : (a : Allocation) {x : ℕ} → x ≡ ofZ w64 (a .pointer .offset) → a .pointer .heap ∷ a .pointer .base ∷ x ∷ a .nursery .collections ∷ a .nursery .visits ∷ a .elder .collections ∷ a .elder .visits ∷ [] ≡ allocationWords a
+unfolding allocationWords
+words-in a e = ap (λ (x : ℕ). a .pointer .heap ∷ a .pointer .base ∷ x ∷ a .nursery .collections ∷ a .nursery .visits ∷ a .elder .collections ∷ a .elder .visits ∷ []) e
+
+pub allocated-at : {r : Allocated} {a : Allocation} {out before : List ℕ} → r ≡ allocated.At a → out ≡ allocationWords a → (v roots : List ℕ) → Allocates (allocOutcome r v roots) before 0 out v roots
+unfolding numberOf outOf allocationWords allocOutcome
+allocated-at {out = out} {before = before} e f v roots =
+    subst (λ (r : Allocated). Allocates (allocOutcome r v roots) before 0 out v roots) (sym e)
+    (record { answers = record { number = refl; written = f }; image = refl; roots = refl })
+
+pub allocated-refused : {r : Allocated} {q : ℕ} {before : List ℕ} → r ≡ allocated.Refused q → (v roots : List ℕ) → Allocates (allocOutcome r v roots) before q before v roots
+unfolding numberOf outOf allocOutcome
+allocated-refused {q = q} {before = before} e v roots =
+    subst (λ (r : Allocated). Allocates (allocOutcome r v roots) before q before v roots) (sym e)
+    (record { answers = record { number = refl; written = refl }; image = refl; roots = refl })
+
+-- carried along
+
+pub leaves-as : {o p : Outcome} {r : ℕ} {v : List ℕ} → o ≡ p → Leaves p r v → Leaves o r v
+leaves-as {r = r} {v = v} e = subst (λ (x : Outcome). Leaves x r v) (sym e)
+
+pub answers-as : {a b : Res (List ℕ)} {before : List ℕ} {r : ℕ} {out : List ℕ} → a ≡ b → Answers a before r out → Answers b before r out
+answers-as {before = before} {r = r} {out = out} e = subst (λ (x : Res (List ℕ)). Answers x before r out) e
+
+pub allocates-as : {o p : Outcome} {before : List ℕ} {r : ℕ} {out v roots : List ℕ} → o ≡ p → Allocates p before r out v roots → Allocates o before r out v roots
+allocates-as {before = before} {r = r} {out = out} {v = v} {roots = roots} e = subst (λ (x : Outcome). Allocates x before r out v roots) (sym e)
