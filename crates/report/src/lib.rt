@@ -1,0 +1,197 @@
+// The report: its numbers are taken, then both generations are collected without roots or masks, so that no allocation stays.
+// `report` takes any words, `report_formed` an image that 1 and 2 were asked of.
+use barrier::Counted;
+use barrier::Counting;
+use barrier::WriteBarrier;
+use image::Checked;
+use layout::places;
+ghost use mathlib.Core.Path.{_≡_};
+ghost use mathlib.Core.List.{[]};
+ghost use Prim.Native.Nat.{_<_};
+ghost use lib.ListN.{length, take, drop};
+ghost use Rattle.model.specs.Lists.{places, sum};
+ghost use Rattle.model.specs.Barrier.{most, counts};
+ghost use Rattle.model.specs.Image.{decode};
+ghost use Rattle.model.specs.Elder.{countDropped};
+ghost use Rattle.model.specs.Collector.{statistics, report};
+ghost use Rattle.model.specs.Calls.{reported, reportCall};
+ghost use Rattle.theorems.specs.Fit.{FitBarrier, Image};
+ghost use Rattle.barrier.specs.Counts.{barrierOf, counted};
+ghost use Rattle.fields.specs.Fields.{Reads, Turns};
+ghost use Rattle.report.specs.Numbers.{youngNumbers, oldNumbers, numbers, reportOutcome, cleared};
+
+// The bound of the collections counters.
+const MOST: u64 = 4294967295;
+
+// References are the sum of a barrier's counts, free what is left of the cells.
+pub struct Nursery {
+    pub collections: u64,
+    pub allocations: u64,
+    pub cells: u64,
+    pub references: u64,
+    pub free: u64,
+    pub promotions: u64,
+}
+
+pub struct Elder {
+    pub collections: u64,
+    pub allocations: u64,
+    pub cells: u64,
+    pub references: u64,
+}
+
+pub struct Statistics {
+    pub nursery: Nursery,
+    pub elder: Elder,
+    pub leak: u64,
+}
+
+// Refused has the number of the question that got a no.
+pub enum Reported {
+    Taken(Statistics),
+    Refused(u64),
+}
+
+// ---- The numbers
+
+fn young_allocations(image: &[u64]) -> u64
+    requires { ⌜ Image (now image) (decode (now image)) ⌝ }
+    ensures { λ r. ⌜ Reads (λ h. length (places 0 (h .young .lens))) (now (image .entry)) r ⌝ }
+{
+    let end = image::layout::slot_lengths(fields::size_n(image) as usize);
+    slots::held(&image[image::layout::LENGTHS..end]) as u64
+}
+
+// An absent barrier has only zeros in the image.
+fn young_references(image: &[u64]) -> u64
+    requires { ⌜ Image (now image) (decode (now image)) ⌝ }
+    ensures { λ r. ⌜ Reads (λ h. sum (counts (h .young .bar))) (now (image .entry)) r ⌝ }
+{
+    slots::in_use(&image[image::layout::YOUNG_COUNTS..image::layout::OLD_COUNTS]) as u64
+}
+
+fn old_references(image: &[u64]) -> u64
+    requires { ⌜ Image (now image) (decode (now image)) ⌝ }
+    ensures { λ r. ⌜ Reads (λ h. sum (counts (h .old .bar))) (now (image .entry)) r ⌝ }
+{
+    slots::in_use(&image[image::layout::OLD_COUNTS..image::layout::LENGTHS]) as u64
+}
+
+fn young_numbers(image: &[u64]) -> Nursery
+    requires { ⌜ Image (now image) (decode (now image)) ⌝ }
+    ensures { λ r. ⌜ Reads (λ h. take 6 (statistics h)) (now (image .entry)) (youngNumbers r) ⌝ }
+{
+    let n = fields::size_n(image);
+    let cells = fields::cursor(image);
+    let free = n - cells;
+    let collections = fields::young_collections(image);
+    let allocations = young_allocations(image);
+    let references = young_references(image);
+    let promotions = fields::promotions(image);
+    Nursery {
+        collections,
+        allocations,
+        cells,
+        references,
+        free,
+        promotions,
+    }
+}
+
+fn old_numbers(image: &[u64]) -> Elder
+    requires { ⌜ Image (now image) (decode (now image)) ⌝ }
+    ensures { λ r. ⌜ Reads (λ h. take 4 (drop 6 (statistics h))) (now (image .entry)) (oldNumbers r) ⌝ }
+{
+    let l = places::layout_of(image);
+    let from = l.slots;
+    let end = l.young;
+    let collections = fields::old_collections(image);
+    let allocations = slots::held(&image[from..end]) as u64;
+    let cells = slots::in_use(&image[from..end]) as u64;
+    let references = old_references(image);
+    Elder {
+        collections,
+        allocations,
+        cells,
+        references,
+    }
+}
+
+// The leak flag is always 0.
+fn take_numbers(image: &[u64]) -> Statistics
+    requires { ⌜ Image (now image) (decode (now image)) ⌝ }
+    ensures { λ r. ⌜ Reads (λ h. statistics h) (now (image .entry)) (numbers r) ⌝ }
+{
+    let nursery = young_numbers(image);
+    let elder = old_numbers(image);
+    Statistics {
+        nursery,
+        elder,
+        leak: 0,
+    }
+}
+
+// ---- Both collections
+
+// All elder cells counted out: there are no members.
+fn count_out(image: &[u64]) -> Counted
+    requires { ⌜ Image (now image) (decode (now image)) ⌝ }
+    ensures { λ r. ⌜ Reads (λ h. countDropped [] 0 (h .old .slots) (h .old .bar)) (now (image .entry)) (counted r) ⌝ }
+{
+    let l = places::layout_of(image);
+    let from = l.slots;
+    let end = l.young;
+    let at = l.old;
+    let none = [0u64; 1];
+    let b = fields::old_barrier(image);
+    drops::count_dropped(&image[from..end], &image[at..], &none[..0], 0, b)
+}
+
+// Every allocation leaves; the elder has this barrier.
+fn clear(image: &mut [u64], b: WriteBarrier)
+    requires { ⌜ Image (now image) (decode (now image)) ⌝ }
+    requires { ⌜ FitBarrier (barrierOf b) ⌝ }
+    requires { ⌜ (decode (now image) .young .colls < most) × (decode (now image) .old .colls < most) ⌝ }
+    ensures { λ _. ⌜ Turns (cleared (barrierOf b)) (now (image .entry)) (now (image .exit)) ⌝ }
+{
+    let none = [0u64; 1];
+    fields::put_old_barrier(image, b);
+    layout::keep_members(image, &none[..0], 0);
+    fields::count_old_collection(image);
+    fields::empty_nursery(image, 0);
+}
+
+// The nursery's counter is asked first, then the elder's, then the counts.
+pub fn report_formed(image: &mut [u64]) -> Reported
+    requires { ⌜ Image (now image) (decode (now image)) ⌝ }
+    ensures { λ r. ⌜ reported (now (image .entry)) (report (decode (now (image .entry)))) ≡ reportOutcome r (now (image .exit)) ⌝ }
+{
+    let s = take_numbers(image);
+    let young = s.nursery.collections;
+    let old = s.elder.collections;
+    if MOST <= young {
+        return Reported::Refused(11);
+    }
+    if MOST <= old {
+        return Reported::Refused(11);
+    }
+    let c = count_out(image);
+    let a = c.answer;
+    match a {
+        Counting::Done => {
+            let b = c.barrier;
+            clear(image, b);
+            Reported::Taken(s)
+        }
+        Counting::Refused(q) => Reported::Refused(q),
+    }
+}
+
+pub fn report(image: &mut [u64]) -> Reported
+    ensures { λ r. ⌜ reportCall (now (image .entry)) ≡ reportOutcome r (now (image .exit)) ⌝ }
+{
+    match image::check(image) {
+        Checked::Formed => report_formed(image),
+        Checked::Refused(q) => Reported::Refused(q),
+    }
+}
