@@ -11,7 +11,7 @@ use Rattle.model.specs.Reach.{enter, walk, closure}
 use Rattle.model.specs.Records.{Ptr, samePtr, pointers}
 use Rattle.model.specs.Barrier.{Barrier, most, matches}
 use Rattle.model.specs.Heap.{Nursery, Elder, Heap}
-use Rattle.model.specs.Image.{encode, decode}
+use Rattle.model.specs.Image.{decode}
 use Rattle.model.specs.Nursery.{matched, youngStart, youngStep, youngMembers, sort, survivors, allAllocated, emptied, collectYoung}
 use Rattle.model.specs.Elder.{oldStart, oldStep, oldMembers, keep, countDropped, sweep, collectOld}
 use Rattle.model.specs.Collector.{statistics, report}

@@ -1,11 +1,11 @@
 -- The numbers, as they are read from an image.
-use mathlib.Core.Path.{_≡_, refl, sym, ap, _∙_}
+use mathlib.Core.Path.{_≡_, sym, ap, _∙_}
 use mathlib.Core.Bool.{true}
 use mathlib.Core.List.{List, [], _∷_, _++_}
 use Prim.Native.Nat.{ℕ, _+_, _-_, _*_, _^_, _≤_, _<_}
 use native.Mathlib.Omega.{arith}
 use lib.Dec.{leb}
-use lib.ListN.{length, getD, take, drop}
+use lib.ListN.{length, take, drop}
 use borrow.Author.Tests.{leb-true}
 use Rattle.model.specs.Lists.{places, sum, allAtMost}
 use Rattle.model.specs.Barrier.{Barrier, cache, most, counts}

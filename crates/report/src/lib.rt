@@ -18,7 +18,7 @@ ghost use Rattle.model.specs.Calls.{reported, reportCall};
 ghost use Rattle.theorems.specs.Fit.{FitBarrier, Image};
 ghost use Rattle.barrier.specs.Counts.{barrierOf, counted};
 ghost use Rattle.fields.specs.Fields.{Reads, Turns};
-ghost use Rattle.report.specs.Numbers.{youngNumbers, oldNumbers, numbers, reportOutcome, cleared};
+ghost use Rattle.report.specs.Numbers.{youngNumbers, oldNumbers, numbers, reportOutcome, Fills, cleared};
 
 // The bound of the collections counters.
 const MOST: u64 = 4294967295;
@@ -194,4 +194,38 @@ pub fn report(image: &mut [u64]) -> Reported
         Checked::Formed => report_formed(image),
         Checked::Refused(q) => Reported::Refused(q),
     }
+}
+
+// ---- Into a record that the caller lends
+
+// The numbers and 0, or those that were there and the question's number.
+struct Filled {
+    question: u64,
+    statistics: Statistics,
+}
+
+fn fill(image: &mut [u64], old: Statistics) -> Filled
+    requires { ⌜ Image (now image) (decode (now image)) ⌝ }
+    ensures { λ r. ⌜ Fills (now (image .entry)) old (r .question) (r .statistics) (now (image .exit)) ⌝ }
+{
+    match report_formed(image) {
+        Reported::Taken(s) => Filled {
+            question: 0,
+            statistics: s,
+        },
+        Reported::Refused(q) => Filled {
+            question: q,
+            statistics: old,
+        },
+    }
+}
+
+// Answers 0, or the number of the question that got a no: then the record stays as it was.
+pub fn report_into(image: &mut [u64], lent: &mut Statistics) -> u64
+    requires { ⌜ Image (now image) (decode (now image)) ⌝ }
+    ensures { λ r. ⌜ Fills (now (image .entry)) (now (lent .entry)) r (now (lent .exit)) (now (image .exit)) ⌝ }
+{
+    let f = fill(image, *lent);
+    *lent = f.statistics;
+    f.question
 }
