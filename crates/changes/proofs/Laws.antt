@@ -22,7 +22,7 @@ module _ {B : Type 0} where
   bind-assoc (refuse q) f g = refl
 
 module _ {A B : Type 0} (f : A → B → Res B) where
-  each-append : (s t : List A) (b : B) → each f (s ++ t) b ≡ (each f s b >>= each f t)
+  pub each-append : (s t : List A) (b : B) → each f (s ++ t) b ≡ (each f s b >>= each f t)
   each-append [] t b = refl
   each-append (a ∷ s) t b = bind-same (f a b) (each-append s t) ∙ sym (bind-assoc (f a b) (each f s) (each f t))
 

@@ -9,6 +9,7 @@ use Rattle.theorems.specs.Fit.{Image}
 use Rattle.theorems.specs.Does.{Meets, Does}
 use Rattle.theorems.proofs.Does.{does-then, does-refused, does-same}
 use Rattle.theorems.proofs.Image.{image-decode}
+use Rattle.changes.proofs.Laws.{each-append}
 
 abbrev pub mapRes : {A B : Type 0} → (A → B) → Res A → Res B
 mapRes f (ok a) = ok (f a)
@@ -36,15 +37,6 @@ module _ {A : Type 0} {step : Heap → Res (A × Heap)} {w v : List ℕ} {a : A}
       go (refuse q) e k = absurd k
 
 -- a list of steps, each on what the ones before left
-
-module _ {A B : Type 0} (f : A → B → Res B) where
-  pub each-append : (s t : List A) (b : B) → each f (s ++ t) b ≡ (each f s b >>= each f t)
-  each-append [] t b = refl
-  each-append (a ∷ s) t b = go (f a b) (each-append s t)
-    where
-      go : (m : Res B) → ((c : B) → each f (s ++ t) c ≡ (each f s c >>= each f t)) → (m >>= each f (s ++ t)) ≡ ((m >>= each f s) >>= each f t)
-      go (ok c) ih = ih c
-      go (refuse q) ih = refl
 
 module _ {P X : Type 0} (f : X → P × Heap → Res (P × Heap)) (start : P) where
   abbrev all : List X → Heap → Res (P × Heap)

@@ -22,6 +22,7 @@ use Rattle.theorems.proofs.Res.{holds-at}
 use Rattle.trace.specs.Words.{tab, ptrAt, members}
 use Rattle.trace.proofs.Entries.{tab-cons, length-members}
 use Rattle.trace.proofs.Places.{in-length}
+use Rattle.survivors.proofs.Entries.{tab-append}
 use Rattle.fields.proofs.Parts.{sized-in}
 use Rattle.nursery.specs.Steps.{collectedAnswer}
 use Rattle.nursery.specs.Steps as nursery
@@ -46,11 +47,6 @@ tab-in f i zero k l = absurd (not-suc-le-zero l)
 tab-in f i (suc n) zero l = List·Memᴰ·head (ap f (add-zero i))
 tab-in f i (suc n) (suc k) l = let m : List·Memᴰ (f (i + suc k)) (tab f (suc i) n) = rw add-suc (rw suc-add at (tab-in f (suc i) n k (le-of-suc-le-suc l))) in List·Memᴰ·tail m
 
-tab-split : {A : Type 0} (f : ℕ → A) (i n m : ℕ) → tab f i (n + m) ≡ tab f i n ++ tab f (i + n) m
-unfolding tab
-tab-split f i zero m = rw (zero-add, add-zero)
-tab-split f i (suc n) m = rw suc-add (ap (λ (l : List _). f i ∷ l) (tab-split f (suc i) n m ∙ rw (suc-add, add-suc)))
-
 -- what the survivors got so far stands in scratch and in the tally
 unfoldable pub pushedIn : Sizes → ℕ → ℕ → List ℕ → Tally → Pushed
 pushedIn z r i x tally = record { moves = movesIn i (drop (imageLength z) x) (drop (basesAt z r) x); sweeps = tally .sweeps; entered = tally .entered }
@@ -63,7 +59,7 @@ members-split : (n : ℕ) (w : List ℕ) (i : ℕ) → i < n → members n w ≡
 unfolding members
 members-split n w i l =
     let e : n ≡ i + (n - i) = omega arith in
-    ap (tab (ptrAt w) 0) e ∙ tab-split (ptrAt w) 0 i (n - i) ∙ rw (zero-add, tab-cons (ptrAt w) i n l)
+    ap (tab (ptrAt w) 0) e ∙ tab-append (ptrAt w) 0 i (n - i) ∙ rw (zero-add, tab-cons (ptrAt w) i n l)
 
 -- the nursery was collected: u is the image then, t scratch
 pub record Begun (w roots s : List ℕ) (what : Request) (visits moved : ℕ) (u t : List ℕ) : Type 0 where
