@@ -23,7 +23,15 @@ use Rattle.collector.specs.Alloc.{allocOutcome}
 use Rattle.collector.specs.declared.Allocation.{Allocation}
 use Rattle.collector.specs.declared.Allocated.{Allocated}
 use Rattle.collector.specs.declared.Allocated.the-variants as allocated
-use Rattle.heap_c.specs.Replies.{numberOf, outOf, wordsOf, allocationWords, Answers, Leaves, Allocates}
+use Rattle.report.specs.Numbers.{numbers, reportOutcome}
+use Rattle.report.specs.declared.Statistics.{Statistics}
+use Rattle.report.specs.declared.Reported.{Reported}
+use Rattle.report.specs.declared.Reported.the-variants as reported
+use Rattle.figure.specs.Answer.{modelFigure, figuredAnswer}
+use Rattle.figure.specs.declared.Figure.{Figure}
+use Rattle.figure.specs.declared.Figured.{Figured}
+use Rattle.figure.specs.declared.Figured.the-variants as figured
+use Rattle.heap_c.specs.Replies.{numberOf, outOf, wordsOf, allocationWords, figureWords, figureAnswer, Answers, Leaves, Reports, Allocates}
 
 -- new
 
@@ -82,7 +90,32 @@ allocated-refused {q = q} {before = before} e v roots =
     subst (λ (r : Allocated). Allocates (allocOutcome r v roots) before q before v roots) (sym e)
     (record { answers = record { number = refl; written = refl }; image = refl; roots = refl })
 
+-- report
+
+pub reported-taken : {r : Reported} {x : Statistics} {out before : List ℕ} → r ≡ reported.Taken x → out ≡ numbers x → (v : List ℕ) → Reports (reportOutcome r v) before 0 out v
+unfolding numberOf outOf reportOutcome
+reported-taken {out = out} {before = before} e f v =
+    subst (λ (r : Reported). Reports (reportOutcome r v) before 0 out v) (sym e) (record { answers = record { number = refl; written = f }; image = refl })
+
+pub reported-refused : {r : Reported} {q : ℕ} {before : List ℕ} → r ≡ reported.Refused q → (v : List ℕ) → Reports (reportOutcome r v) before q before v
+unfolding numberOf outOf reportOutcome
+reported-refused {q = q} {before = before} e v =
+    subst (λ (r : Reported). Reports (reportOutcome r v) before q before v) (sym e) (record { answers = record { number = refl; written = refl }; image = refl })
+
+-- figure
+
+pub figured-is : {r : Figured} {f : Figure} {out before : List ℕ} → r ≡ figured.Is f → out ≡ figureWords (modelFigure f) → Answers (figureAnswer (figuredAnswer r)) before 0 out
+unfolding numberOf outOf figureAnswer
+figured-is {out = out} {before = before} e f = subst (λ (r : Figured). Answers (figureAnswer (figuredAnswer r)) before 0 out) (sym e) (record { number = refl; written = f })
+
+pub figured-refused : {r : Figured} {q : ℕ} {before : List ℕ} → r ≡ figured.Refused q → Answers (figureAnswer (figuredAnswer r)) before q before
+unfolding numberOf outOf figureAnswer
+figured-refused {q = q} {before = before} e = subst (λ (r : Figured). Answers (figureAnswer (figuredAnswer r)) before q before) (sym e) (record { number = refl; written = refl })
+
 -- carried along
+
+pub reports-as : {o p : Outcome} {before : List ℕ} {r : ℕ} {out v : List ℕ} → o ≡ p → Reports p before r out v → Reports o before r out v
+reports-as {before = before} {r = r} {out = out} {v = v} e = subst (λ (x : Outcome). Reports x before r out v) (sym e)
 
 pub leaves-as : {o p : Outcome} {r : ℕ} {v : List ℕ} → o ≡ p → Leaves p r v → Leaves o r v
 leaves-as {r = r} {v = v} e = subst (λ (x : Outcome). Leaves x r v) (sym e)

@@ -5,7 +5,10 @@ use access::Loaded;
 use access::Stored;
 use collector::Allocated;
 use collector::Allocation;
+use figure::Figure;
+use figure::Figured;
 use image::Made;
+use report::Reported;
 use value::Pointer;
 use value::Value;
 ghost use mathlib.Core.Path.{_≡_};
@@ -19,7 +22,9 @@ ghost use mir.Val.{ofZ};
 ghost use Rattle.model.specs.Records.{cellWords};
 ghost use Rattle.model.specs.Heap.{inBounds};
 ghost use Rattle.model.specs.Image.{imageLength, decode};
-ghost use Rattle.model.specs.Calls.{scratchLength, allocOn, readOn, writeOn, allocated, left, allocs, reads, writes, call, newCall};
+ghost use Rattle.model.specs.Collector.{report};
+ghost use Rattle.model.specs.Figure.{figure};
+ghost use Rattle.model.specs.Calls.{scratchLength, allocOn, readOn, writeOn, allocated, left, reported, allocs, reads, writes, call, reportCall, newCall};
 ghost use Rattle.theorems.specs.Fit.{Image};
 ghost use Rattle.value.specs.Value.{valueCell};
 ghost use Rattle.trace.specs.Words.{pointer};
@@ -27,7 +32,9 @@ ghost use Rattle.image.specs.Places.{sizes};
 ghost use Rattle.image.specs.Answers.{orZero, madeOutcome};
 ghost use Rattle.access.specs.Access.{loadedCell, storedOutcome};
 ghost use Rattle.collector.specs.Alloc.{allocOutcome};
-ghost use Rattle.heap_c.specs.Replies.{wordsOf, allocationWords, Answers, Leaves, Allocates};
+ghost use Rattle.report.specs.Numbers.{reportOutcome};
+ghost use Rattle.figure.specs.Answer.{modelFigure, figuredAnswer};
+ghost use Rattle.heap_c.specs.Replies.{wordsOf, allocationWords, figureWords, figureAnswer, Answers, Leaves, Reports, Allocates};
 
 // The words of an image of these sizes, 0 if they are out of bounds.
 #[no_mangle]
@@ -212,4 +219,62 @@ pub extern "C" fn heap_write_formed(
     ensures { λ r. ⌜ Leaves (left (now (image .entry)) (writeOn (decode (now (image .entry))) (pointer heap base (ofZ w64 offset)) (now (cell .entry)))) r (now (image .exit)) ⌝ }
 {
     stored_number(access::write_formed(image, Pointer { heap, base, offset }, cell))
+}
+
+// ---- Report
+
+fn answer_reported(r: Reported, out: &mut [u64; 11]) -> u64
+    ensures { λ x. ⌜ ((v : List ℕ) → Reports (reportOutcome r v) (now (out .entry)) x (now (out .exit)) v) ⌝ }
+{
+    match r {
+        Reported::Taken(s) => {
+            *out = report::words(s);
+            0
+        }
+        Reported::Refused(q) => q,
+    }
+}
+
+#[no_mangle]
+pub extern "C" fn heap_report(image: &mut [u64], out: &mut [u64; 11]) -> u64
+    ensures { λ r. ⌜ Reports (reportCall (now (image .entry))) (now (out .entry)) r (now (out .exit)) (now (image .exit)) ⌝ }
+{
+    answer_reported(report::report(image), out)
+}
+
+#[no_mangle]
+pub extern "C" fn heap_report_formed(image: &mut [u64], out: &mut [u64; 11]) -> u64
+    requires { ⌜ Image (now image) (decode (now image)) ⌝ }
+    ensures { λ r. ⌜ Reports (reported (now (image .entry)) (report (decode (now (image .entry))))) (now (out .entry)) r (now (out .exit)) (now (image .exit)) ⌝ }
+{
+    answer_reported(report::report_formed(image), out)
+}
+
+// ---- Figure
+
+// 1 for a figure below zero, then the thousandths.
+fn figure_words(f: Figure) -> [u64; 2]
+    ensures { λ r. ⌜ r ≡ figureWords (modelFigure f) ⌝ }
+{
+    [f.negative as u64, f.thousandths]
+}
+
+fn answer_figured(r: Figured, out: &mut [u64; 2]) -> u64
+    ensures { λ x. ⌜ Answers (figureAnswer (figuredAnswer r)) (now (out .entry)) x (now (out .exit)) ⌝ }
+{
+    match r {
+        Figured::Is(f) => {
+            *out = figure_words(f);
+            0
+        }
+        Figured::Refused(q) => q,
+    }
+}
+
+// Of a Float's 64 bits.
+#[no_mangle]
+pub extern "C" fn heap_figure(bits: u64, out: &mut [u64; 2]) -> u64
+    ensures { λ r. ⌜ Answers (figureAnswer (figure bits)) (now (out .entry)) r (now (out .exit)) ⌝ }
+{
+    answer_figured(figure::figure_of_bits(bits), out)
 }

@@ -288,3 +288,11 @@ impl<'a> Reader<'a> {
         next
     }
 }
+
+// What stands at a place, by a reader that is set there: what the program runs.
+pub fn read_at(file: &[u8], at: usize) -> Next
+    ensures { λ found. ⌜ nextAnswer found ≡ nextAt (now (file .entry)) at ⌝ }
+{
+    let mut reader = Reader { file, at };
+    reader.next()
+}

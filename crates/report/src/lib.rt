@@ -52,6 +52,27 @@ pub enum Reported {
     Refused(u64),
 }
 
+// The numbers in their order.
+pub fn words(s: Statistics) -> [u64; 11]
+    ensures { λ r. ⌜ r ≡ numbers s ⌝ }
+{
+    let y = s.nursery;
+    let e = s.elder;
+    [
+        y.collections,
+        y.allocations,
+        y.cells,
+        y.references,
+        y.free,
+        y.promotions,
+        e.collections,
+        e.allocations,
+        e.cells,
+        e.references,
+        s.leak,
+    ]
+}
+
 // ---- The numbers
 
 fn young_allocations(image: &[u64]) -> u64
