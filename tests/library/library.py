@@ -28,9 +28,11 @@ FUNCTIONS = {
     "heap_alloc": (*SLICE, *SLICE, *SLICE, i64, *OUT),
     "heap_read": (*SLICE, *PLACE, *OUT),
     "heap_write": (*SLICE, *PLACE, *SLICE),
+    "heap_report": (*SLICE, *OUT),
+    "heap_figure": (u64, *OUT),
 }
 # the doors of an image that is known to be formed
-FORMED = ("heap_alloc", "heap_read", "heap_write")
+FORMED = ("heap_alloc", "heap_read", "heap_write", "heap_report")
 
 
 class Broken(Exception):
@@ -113,7 +115,7 @@ class Library:
                 function = getattr(loaded, door)
                 function.argtypes, function.restype = takes, u64
                 self.functions[door] = function
-        self.allocation, self.cell = Lent.of([7] * 7), Lent.of([3] * 3)
+        self.allocation, self.cell, self.statistics, self.figured = (Lent.of([size] * size) for size in (7, 3, 11, 2))
         self.calls = 0
 
     def words(self, sizes: Sizes) -> int:
@@ -143,6 +145,12 @@ class Library:
         if value.content != before:
             raise Broken("a write changed the value")
         return answer
+
+    def report(self, image: Lent, formed: bool = False) -> Answer:
+        return self.watched(door("heap_report", formed), (*image.slice, self.statistics.at), (image,), out=self.statistics)
+
+    def figure(self, bits: int) -> Answer:
+        return self.watched("heap_figure", (bits, self.figured.at), (), out=self.figured)
 
     def watched(
         self, name: str, given: tuple, changes: tuple[Lent, ...], free: tuple[Lent, ...] = (), out: Lent | None = None

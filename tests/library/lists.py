@@ -2,8 +2,8 @@
 """The library against the published Rust: lists.py SEED COUNT [--library FILE]
 
 Random command files are run through the library and through the oracle. The listings must be the same up to and including
-the first 6, 9 or 10, where the Rust panics. Reports and figures are left out of the files: the library has neither yet. At the
-first difference the file is made as short as possible and shown with both listings.
+the first 6, 9 or 10, where the Rust panics. At the first difference the file is made as short as possible and shown with both
+listings.
 """
 import argparse
 import sys
@@ -16,13 +16,11 @@ from library import Broken, Library, built
 import generate
 import machine
 import oracle
-from commands import split, without
+from commands import split
 from shorten import shortened
 
 # so many files go to the oracle at once
 BATCH = 500
-# reports and figures
-LEFT_OUT = b"RF"
 
 
 def ours(library: Library, file: bytes) -> bytes:
@@ -63,7 +61,7 @@ def main() -> None:
     options = parser.parse_args()
     library = Library(options.library or built())
     lines = 0
-    for batch in batches(without(file, LEFT_OUT) for file in generate.files(options.seed, options.count)):
+    for batch in batches(generate.files(options.seed, options.count)):
         for file, rust in zip(batch, oracle.listings(batch), strict=True):
             if not agree(ours(library, file), rust):
                 print("library: a file differs from the oracle; shortened:")

@@ -12,6 +12,7 @@ from commands import LEAST_I64, MOST_I64, OPERANDS, POINTER, REGISTERS, WORD, sp
 
 # the program's limits for N, T, S and C
 LIMITS = Sizes(128, 8192, 128, 512)
+MOST_BYTES = 65536
 # a command's name, its operands as struct has them, and how many of these are registers
 COMMANDS = {
     0x4E: ("new", "<4H", 0),
@@ -19,10 +20,13 @@ COMMANDS = {
     0x56: ("set", "<BBBQQ", 1),
     0x4C: ("load", "<BBq", 2),
     0x53: ("store", "<BBq", 2),
+    0x52: ("report", "<", 0),
+    0x46: ("figure", "<B", 1),
 }
 # fields of a cell: kind + 256 × heap, payload, offset
 Cell = tuple[int, ...]
 UNINITIALIZED: Cell = (0, 0, 0)
+FLOAT = 3
 NO_HEAP = Target(2, 0, 0)
 
 
@@ -65,6 +69,9 @@ class Heap:
 
     def write(self, target: Target, cell: Cell) -> Answer:
         return self.library.write(self.image, target, Lent.of(cell), self.formed)
+
+    def report(self) -> Answer:
+        return self.library.report(self.image, self.formed)
 
     def left(self) -> tuple[bytes, bytes]:
         return self.image.content, self.roots.content
@@ -140,9 +147,23 @@ class Machine:
         self.through_both(lambda twin: twin.write(target, self.registers[source]))
         return "store"
 
+    def report(self) -> str:
+        ask(14, bool(self.heaps))
+        return spaced("report", self.through_both(Heap.report))
+
+    def figure(self, of: int) -> str:
+        kind, bits, _ = self.registers[of]
+        ask(15, kind == FLOAT)
+        question, out = self.library.figure(bits)
+        ask(question, not question)
+        negative, thousandths = out
+        return f"figure {'-' * negative}{thousandths // 1000}.{thousandths % 1000:03}"
+
 
 def listing(library: Library, file: bytes) -> bytes:
     """What document 01's program prints of the file."""
+    if len(file) > MOST_BYTES:
+        return b"1 no 12\n"
     machine, lines = Machine(library), []
     for number, command in enumerate(split(file), 1):
         try:

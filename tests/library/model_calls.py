@@ -2,8 +2,8 @@
 """The library against the definitions: model_calls.py SEED COUNT [--library FILE] [--model FOLDER]
 
 COUNT random scenarios of library calls (scenarios.py) become facts about the model's `call`, which `rt check` proves by
-computing: the same answers, in the clear, and the same digest of image and roots after each call. Every question from 1 to 11
-must have refused some call. Where a fact does not hold, its scenario is made as short as possible and shown with both results.
+computing: the same answers, in the clear, and the same digest of image and roots after each call. Every question from 1 to 11,
+and 15, must have refused some call. Where a fact does not hold, its scenario is made as short as possible and shown with both results.
 """
 import argparse
 import sys
@@ -18,7 +18,7 @@ from shorten import shortened
 from steps import FACTOR, PRIME, Gave, World, digest, listed
 from workbench import COMPARING, Workbench
 
-QUESTIONS = range(1, 12)
+QUESTIONS = (*range(1, 12), 15)
 # a word or a digest has at most so many decimal digits, and so many of them are printed whole in a message of the checker
 DIGITS, SHOWN = 20, 5
 
@@ -34,7 +34,8 @@ use Rattle.model.specs.Res.{{Res, ok, refuse}}
 use Rattle.model.specs.Records.{{Ptr}}
 use Rattle.model.specs.Heap.{{Sizes, inBounds}}
 use Rattle.model.specs.Image.{{imageLength}}
-use Rattle.model.specs.Calls.{{Outcome, Call, allocs, reads, writes, call, newCall, scratchLength}}
+use Rattle.model.specs.Figure.{{Figure, figure as figureOf}}
+use Rattle.model.specs.Calls.{{Outcome, Call, allocs, reads, writes, call, reportCall, newCall, scratchLength}}
 
 {COMPARING}
 data Step : Type 0 where
@@ -43,6 +44,8 @@ data Step : Type 0 where
   alloc : List ℕ → ℕ → ℕ → ℕ → Step
   read : ℕ → ℕ → ℕ → Step
   write : ℕ → ℕ → ℕ → List ℕ → Step
+  report : Step
+  figure : ℕ → Step
   measure : ℕ → ℕ → ℕ → ℕ → ℕ → Step
 
 digest : ℕ → List ℕ → ℕ
@@ -61,12 +64,18 @@ lengths n t s c r =
     ∷ cond (inBounds (sizes n 0 s c) && leb r 4096) (scratchLength (sizes n 0 s c) r) 0
     ∷ []
 
+figureWords : Res Figure → Res (List ℕ)
+figureWords (ok f) = ok (cond (f .negative) 1 0 ∷ f .thousandths ∷ [])
+figureWords (refuse q) = refuse q
+
 did : Step → List ℕ → Outcome
 did (put i x) w = record {{ answer = ok []; image = set w i x; roots = [] }}
 did (new n t s c) w = newCall (sizes n t s c) w
 did (alloc roots k scratch amount) w = call (allocs (roots ++ replicate k 0) scratch amount) w
 did (read h b o) w = call (reads (pointer h b o)) w
 did (write h b o value) w = call (writes (pointer h b o) value) w
+did report w = reportCall w
+did (figure bits) w = record {{ answer = figureWords (figureOf bits); image = w; roots = [] }}
 did (measure n t s c r) w = record {{ answer = ok (lengths n t s c r); image = w; roots = [] }}
 
 -- the question's number, or 0, the answer's words and more
@@ -83,6 +92,8 @@ shown (new n t s c) o = left o
 shown (alloc roots k scratch amount) o = left o
 shown (read h b o) x = given (x .answer) []
 shown (write h b o value) x = left x
+shown report o = left o
+shown (figure bits) o = given (o .answer) []
 shown (measure n t s c r) o = given (o .answer) []
 
 andThen : (Outcome → List ℕ) → (List ℕ → List ℕ) → Outcome → List ℕ
@@ -107,7 +118,7 @@ digits : List ℕ → ℕ
 digits [] = 1
 digits (x ∷ xs) = x + {10**DIGITS} * digits xs
 """
-OPENED = "same digest sizes pointer lengths did given left shown andThen run answers final digits"
+OPENED = "same digest sizes pointer lengths figureWords did given left shown andThen run answers final digits"
 
 
 def ours(library: Library, scenario: Scenario) -> tuple[list[Gave], tuple[int, ...]]:

@@ -6,7 +6,8 @@ from random import Random
 from typing import Callable, NamedTuple
 
 from library import Library, Sizes, Target
-from steps import WORD, Alloc, Measure, New, Put, Read, Step, World, Write
+from steps import WORD, Alloc, Figure, Measure, New, Put, Read, Report, Step, World, Write
+from values import figure_bits
 
 MOST = 2**32 - 1
 LIMITS = Sizes(2048, 8192, 8192, 65536)
@@ -140,9 +141,18 @@ class Player:
     def write(self) -> None:
         self.take(Write(self.target(), self.value()))
 
+    def report(self) -> None:
+        """Seldom: no allocation stays after it."""
+        if self.chance(0.3):
+            self.take(Report())
+
+    def figure(self) -> None:
+        self.take(Figure(figure_bits(self.rng)))
+
     def calls(self, count: int) -> None:
         for _ in range(count):
-            self.rng.choice((self.alloc, self.alloc, self.write, self.write, self.read))()
+            kinds = (self.alloc, self.write, self.read, self.report, self.figure)
+            self.rng.choices(kinds, (40, 40, 20, 5, 5))[0]()
 
     def counted_writes(self) -> None:
         """A pointer to the other heap into each array that is known."""

@@ -62,6 +62,18 @@ class Write(NamedTuple):
         return f"write {place(self.target)} {listed(self.value)}"
 
 
+class Report(NamedTuple):
+    def term(self) -> str:
+        return "report"
+
+
+class Figure(NamedTuple):
+    bits: int
+
+    def term(self) -> str:
+        return f"figure {self.bits}"
+
+
 class Measure(NamedTuple):
     """The lengths of image and scratch, 0 out of bounds."""
 
@@ -72,7 +84,7 @@ class Measure(NamedTuple):
         return "measure " + " ".join(map(str, (*self.sizes, self.roots)))
 
 
-Step = Put | New | Alloc | Read | Write | Measure
+Step = Put | New | Alloc | Read | Write | Report | Figure | Measure
 
 
 class Gave(NamedTuple):
@@ -113,7 +125,7 @@ class World:
         self.questions.append(answer.question)
         if answer.question:
             return Gave((answer.question,))
-        changed = () if isinstance(step, Read) else (digest(self.roots, digest(self.image.words())),)
+        changed = () if isinstance(step, (Read, Figure)) else (digest(self.roots, digest(self.image.words())),)
         return Gave((0, *answer.out), changed)
 
     def call(self, step: Step, image: Lent, formed: bool) -> tuple[Answer, tuple[int, ...]]:
@@ -128,3 +140,7 @@ class World:
                 return self.library.read(image, target, formed), ()
             case Write(target, value):
                 return self.library.write(image, target, Lent.of(value), formed), ()
+            case Report():
+                return self.library.report(image, formed), ()
+            case Figure(bits):
+                return self.library.figure(bits), ()

@@ -32,3 +32,14 @@ module _ {w : List ℕ} (v : List ℕ) (r : Reported) (i : Image w (decode w)) (
       go : (q : ℕ) → reported w (report (decode w)) ≡ record { answer = refuse q; image = v; roots = [] } → Numbered 11 {A = List ℕ} (refuse q) → Fills w old q old v
       go zero k (numbered a b) = absurd (omega arith)
       go (suc q) k n = record { outcome = k; kept = λ _. refl }
+
+-- `answered`
+module _ (s : Statistics) (v : List ℕ) where
+  pub taken : (q : ℕ) → q ≡ 0 → reportOutcome (Taken s) v ≡ record { answer = recordAnswer q s; image = v; roots = [] }
+  unfolding reportOutcome recordAnswer
+  taken q e = rw e refl
+
+  pub refused : (q : ℕ) → (q ≡ 0 → ⊥) → reportOutcome (Refused q) v ≡ record { answer = recordAnswer q s; image = v; roots = [] }
+  unfolding reportOutcome recordAnswer
+  refused zero n = absurd (n refl)
+  refused (suc q) n = refl

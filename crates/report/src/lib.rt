@@ -6,8 +6,8 @@ use barrier::WriteBarrier;
 use image::Checked;
 use layout::places;
 ghost use mathlib.Core.Path.{_≡_};
-ghost use mathlib.Core.List.{[]};
-ghost use Prim.Native.Nat.{_<_};
+ghost use mathlib.Core.List.{List, []};
+ghost use Prim.Native.Nat.{ℕ, _<_};
 ghost use lib.ListN.{length, take, drop};
 ghost use Rattle.model.specs.Lists.{places, sum};
 ghost use Rattle.model.specs.Barrier.{most, counts};
@@ -18,7 +18,7 @@ ghost use Rattle.model.specs.Calls.{reported, reportCall};
 ghost use Rattle.theorems.specs.Fit.{FitBarrier, Image};
 ghost use Rattle.barrier.specs.Counts.{barrierOf, counted};
 ghost use Rattle.fields.specs.Fields.{Reads, Turns};
-ghost use Rattle.report.specs.Numbers.{youngNumbers, oldNumbers, numbers, reportOutcome, Fills, cleared};
+ghost use Rattle.report.specs.Numbers.{youngNumbers, oldNumbers, numbers, reportOutcome, recordAnswer, Fills, cleared};
 
 // The bound of the collections counters.
 const MOST: u64 = 4294967295;
@@ -249,4 +249,47 @@ pub fn report_into(image: &mut [u64], lent: &mut Statistics) -> u64
     let f = fill(image, *lent);
     *lent = f.statistics;
     f.question
+}
+
+// A record to lend: its numbers reach no answer.
+fn nothing() -> Statistics {
+    let nursery = Nursery {
+        collections: 0,
+        allocations: 0,
+        cells: 0,
+        references: 0,
+        free: 0,
+        promotions: 0,
+    };
+    let elder = Elder {
+        collections: 0,
+        allocations: 0,
+        cells: 0,
+        references: 0,
+    };
+    Statistics {
+        nursery,
+        elder,
+        leak: 0,
+    }
+}
+
+// The answer of a number and a record.
+fn answered(q: u64, s: Statistics) -> Reported
+    ensures { λ r. ⌜ ((v : List ℕ) → reportOutcome r v ≡ record { answer = recordAnswer q s; image = v; roots = [] }) ⌝ }
+{
+    if q == 0 {
+        return Reported::Taken(s);
+    }
+    Reported::Refused(q)
+}
+
+// `report_formed` through a record that is lent: what the program runs.
+pub fn report_lent(image: &mut [u64]) -> Reported
+    requires { ⌜ Image (now image) (decode (now image)) ⌝ }
+    ensures { λ r. ⌜ reported (now (image .entry)) (report (decode (now (image .entry)))) ≡ reportOutcome r (now (image .exit)) ⌝ }
+{
+    let mut s = nothing();
+    let q = report_into(image, &mut s);
+    answered(q, s)
 }
