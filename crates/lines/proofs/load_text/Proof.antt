@@ -1,0 +1,43 @@
+use borrow.Author.Needs.{needs}
+use Rattle.model.specs.Command.{loadWord}
+use Rattle.figure.proofs.Writes.{wrote-both}
+use Rattle.lines.specs.Answers.{loadText}
+use Rattle.lines.proofs.load_text.Statement.{statement}
+use Rattle.lines.proofs.load_text.Tie as tie
+
+cell-numbers-requires : tie.Need-cell-numbers-requires
+cell-numbers-requires c κs = search needs
+
+slice-aggregate-word : tie.Need-slice-aggregate-word
+slice-aggregate-word c = search needs
+
+word-requires : tie.Need-word-requires
+word-requires c κs = search needs
+
+slice-aggregate-each-spaced : tie.Need-slice-aggregate-each-spaced
+slice-aggregate-each-spaced c = search needs
+
+each-spaced-requires : tie.Need-each-spaced-requires
+each-spaced-requires c κs = search needs
+
+same-length : tie.Need-same-length
+same-length c = search needs
+
+returns : tie.Need-returns
+unfolding loadText loadWord
+returns c =
+    let rest = c .before .before in
+    let name = rest .before .before .before .before .before in
+    rw (← (name .before .before .before .cell-numbers .ensures)) (wrote-both (name .word .ensures) (rest .each-spaced .ensures))
+
+pub load-text-spec : {M : Type 1} → statement M
+load-text-spec =
+    tie.close
+    (tie.spec
+    cell-numbers-requires
+    slice-aggregate-word
+    word-requires
+    slice-aggregate-each-spaced
+    each-spaced-requires
+    same-length
+    returns)
