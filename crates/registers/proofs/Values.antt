@@ -67,7 +67,7 @@ good-set s r v g n = record { values = values-set (s .cells) r v (g .values) n }
 
 -- good registers' words are whole cells
 
-values-valid : (xs : List Register) → ((k : ℕ) → GoodValue (getD xs k unset .value)) → allValid (map registerCell xs) ≡ true
+pub values-valid : (xs : List Register) → ((k : ℕ) → GoodValue (getD xs k unset .value)) → allValid (map registerCell xs) ≡ true
 unfolding allValid
 values-valid [] g = refl
 values-valid (x ∷ xs) g = and-both _ _ (g zero .cell) (values-valid xs (λ k. g (suc k)))

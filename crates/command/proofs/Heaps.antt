@@ -1,0 +1,100 @@
+-- The state's heap: whether there is one, the program's limits, and what keeps its words an image within them.
+use mathlib.Core.Path.{_≡_, refl, ap}
+use mathlib.Core.Bool.{true}
+use mathlib.Core.List.{List, [], _∷_}
+use mathlib.Core.Option.{some}
+use Prim.Native.Nat.{ℕ, _≤_, _<_}
+use native.Mathlib.Omega.{arith}
+use lib.ListN.{length}
+use borrow.Author.Tests.{leb-true, le-leb}
+use Rattle.model.specs.Res.{ok, refuse}
+use Rattle.model.specs.Heap.{Sizes, inBounds, Heap}
+use Rattle.model.specs.Image.{imageLength, encode, decode}
+use Rattle.model.specs.Calls.{scratchLength}
+use Rattle.model.specs.Command.{Command, theHeap, noHeap, programBounds, step, stepped}
+use Rattle.theorems.specs.Fit.{Fit}
+use Rattle.theorems.proofs.Image.{decode-encode, encode-sized, encode-formed, image-of}
+use Rattle.theorems.proofs.Lists.{and-parts}
+use Rattle.registers.specs.declared.Registers.{Registers}
+use Rattle.registers.specs.Cells.{Good}
+use Rattle.lines.specs.declared.Answer.{Answer}
+use Rattle.lines.specs.declared.Answer.the-variants.{Refused}
+use Rattle.lines.specs.Answers.{answerText}
+use Rattle.command.specs.State.{heapIn, stateOf, Held}
+use Rattle.command.specs.Steps.{Acts}
+
+-- 14
+
+pub no-heap : (w : List ℕ) (r : Registers) → length w ≡ 0 → theHeap (stateOf w r) ≡ refuse 14
+unfolding theHeap stateOf heapIn
+no-heap [] r e = refl
+no-heap (x ∷ w) r e = absurd (omega arith)
+
+pub the-heap : (w : List ℕ) (r : Registers) → 0 < length w → theHeap (stateOf w r) ≡ ok (decode w)
+unfolding theHeap stateOf heapIn
+the-heap [] r h = absurd (omega arith)
+the-heap (x ∷ w) r h = refl
+
+pub heap-there : (w : List ℕ) (r : Registers) → 0 < length w → noHeap (stateOf w r) ≡ refuse 14
+unfolding noHeap stateOf heapIn
+heap-there [] r h = absurd (omega arith)
+heap-there (x ∷ w) r h = refl
+
+-- a refusal leaves the state
+pub refuses : {c : Command} {w : List ℕ} {r r′ : Registers} {a : Answer} {q : ℕ} → Held w → Good r → step c (stateOf w r) ≡ refuse q → (a ≡ Refused q) × (r′ ≡ r) → Acts c w r a w r′
+unfolding stepped answerText
+refuses h g e (is, same) = rw (is, same) (record { stepping = rw e; held = h; good = g })
+
+pub answers : {c : Command} {w : List ℕ} {r : Registers} {a : Answer} {v : List ℕ} {r′ : Registers} → step c (stateOf w r) ≡ ok (answerText a, stateOf v r′) → Held v → Good r′ → Acts c w r a v r′
+unfolding stepped
+answers e h g = record { stepping = rw e; held = h; good = g }
+
+-- the program's limits
+
+pub record Limited (z : Sizes) : Type 0 where
+  pub n : z .n ≤ 128
+  pub t : z .t ≤ 8192
+  pub s : z .s ≤ 128
+  pub c : z .c ≤ 512
+
+module _ (z : Sizes) (e : programBounds z ≡ true) where
+  limited : Limited z
+  unfolding programBounds
+  limited =
+      let (e₂, c) = and-parts _ _ e in
+      let (e₁, s) = and-parts _ _ e₂ in
+      let (n, t) = and-parts _ _ e₁ in
+      record { n = leb-true _ _ n; t = leb-true _ _ t; s = leb-true _ _ s; c = leb-true _ _ c }
+
+  pub limits-bound : inBounds z ≡ true
+  unfolding inBounds
+  limits-bound =
+      let l = limited in
+      rw (le-leb (z .n) 2048 (omega arith), le-leb (z .t) 8192 (omega arith), le-leb (z .s) 8192 (omega arith), le-leb (z .c) 65536 (omega arith))
+
+  -- the buffer's room
+  pub limited-image : imageLength z ≤ 2698
+  unfolding imageLength
+  limited-image = let l = limited in omega arith
+
+  -- scratch's, with the sixteen registers for roots
+  pub limited-scratch : scratchLength z 16 ≤ 5754
+  unfolding scratchLength imageLength
+  limited-scratch = let l = limited in omega arith
+
+-- words that are held
+
+pub held-none : Held []
+held-none = record { formed = λ h. absurd (omega arith); bounded = λ h. absurd (omega arith) }
+
+module _ {h : Heap} (f : Fit h) where
+  pub heap-encoded : heapIn (encode h) ≡ some h
+  unfolding heapIn encode
+  heap-encoded = ap some (decode-encode h f)
+
+  pub held-image : programBounds (h .size) ≡ true → Held (encode h)
+  held-image b = record { formed = λ _. image-of (encode h) (encode-sized h f) (encode-formed h f); bounded = λ _. rw (decode-encode h f) b }
+
+  -- a call keeps the sizes
+  pub held-after : {w : List ℕ} → Held w → 0 < length w → h .size ≡ decode w .size → Held (encode h)
+  held-after k pos e = held-image (rw e (k .bounded pos))

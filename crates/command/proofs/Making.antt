@@ -1,0 +1,66 @@
+-- Commands over a buffer that the heap's words stand in front of; and `new`, whose limits are within the heap's own bounds.
+use mathlib.Core.Path.{_≡_, sym, ap, _∙_}
+use mathlib.Core.Bool.{true, false}
+use mathlib.Core.List.{List, _++_}
+use Prim.Native.Nat.{ℕ, _+_, _≤_, zero-le}
+use native.Mathlib.Omega.{arith}
+use lib.ListN.{length, take, drop, length-append}
+use lib.Seq.{length-take-le, take-at}
+use Rattle.model.specs.Res.{ok}
+use Rattle.model.specs.Heap.{Sizes, inBounds, fresh}
+use Rattle.model.specs.Image.{imageLength, encode}
+use Rattle.model.specs.Calls.{Outcome, left, newCall}
+use Rattle.model.specs.Command.{Command, new, noHeap, programBounds, step, stepped}
+use Rattle.theorems.specs.Fit.{Fit}
+use Rattle.theorems.proofs.Image.{encode-length, fresh-fit}
+use Rattle.theorems.proofs.Lists.{eqb-same}
+use Rattle.theorems.proofs.Kept.{refused-ok}
+use Rattle.image.specs.Answers.{orZero, madeOutcome}
+use Rattle.image.specs.declared.Made.{Made}
+use Rattle.image.specs.declared.Made.the-variants as made
+use Rattle.registers.specs.declared.Registers.{Registers}
+use Rattle.registers.specs.Cells.{Good}
+use Rattle.lines.specs.declared.Answer.{Answer}
+use Rattle.lines.specs.declared.Answer.the-variants as answer
+use Rattle.lines.specs.Answers.{answerText}
+use Rattle.command.specs.declared.State.{State}
+use Rattle.command.specs.State.{heapIn, stateOf, Held, stateIn, heapless}
+use Rattle.command.specs.Steps.{Performs}
+use Rattle.command.proofs.Heaps.{limits-bound, limited-image, held-none, heap-encoded, held-image}
+
+-- the first k words of a buffer become v
+pub performs-front : {c : Command} {buffer v : List ℕ} {s : State} {a : Answer} {r : Registers} {k : ℕ} → k ≤ length buffer → length v ≡ k
+    → stepped (stateIn buffer s) (step c (stateIn buffer s)) ≡ (answerText a, stateOf v r) → Held v → Good r → Performs c buffer s a (v ++ drop k buffer) (record { words = k; registers = r })
+performs-front {buffer = buffer} {v = v} {k = k} fits long stepping held good =
+    let front : take k (v ++ drop k buffer) ≡ v = take-at v (drop k buffer) k long in
+    let all : length (v ++ drop k buffer) ≡ length v + length (drop k buffer) = length-append v (drop k buffer) in
+    record { stepping = rw front stepping; ready = record { within = omega arith; held = rw front held; good = good } }
+
+module _ (buffer : List ℕ) {r : Registers} (z : Sizes) (g : Good r) where
+  -- 1
+  pub make-refused : programBounds z ≡ false → Performs (new z) buffer (heapless r) (answer.Refused 1) buffer (heapless r)
+  unfolding step stepped noHeap stateOf heapIn answerText
+  make-refused e = record { stepping = rw e; ready = record { within = zero-le; held = held-none; good = g } }
+
+  module _ (room : 2698 ≤ length buffer) (e : programBounds z ≡ true) {k : ℕ} (is : k ≡ orZero (inBounds z) (imageLength z)) where
+    long : k ≡ imageLength z
+    long = is ∙ rw (limits-bound z e)
+
+    pub make-fits : k ≤ length buffer
+    make-fits = omega (arith, long, limited-image z e)
+
+    module _ (m : Made) (v : List ℕ) (done : madeOutcome m v ≡ newCall z (take k buffer)) where
+      newly : madeOutcome m v ≡ left (take k buffer) (ok (fresh z))
+      unfolding newCall
+      newly = done ∙ rw (limits-bound z e, length-take-le k buffer make-fits, long, eqb-same (imageLength z))
+
+      pub make-always : {q : ℕ} → m ≡ made.Refused q → ⊥
+      unfolding madeOutcome left
+      make-always f = refused-ok (ap (λ (o : Outcome). o .answer) (ap (λ (x : Made). madeOutcome x v) (sym f) ∙ newly))
+
+      pub make-done : m ≡ made.Done → Performs (new z) buffer (heapless r) answer.New (v ++ drop k buffer) (record { words = k; registers = r })
+      unfolding step stepped noHeap stateOf heapIn answerText madeOutcome left fresh
+      make-done f =
+          let fit : Fit (fresh z) = fresh-fit z (limits-bound z e) in
+          let image : v ≡ encode (fresh z) = ap (λ (o : Outcome). o .image) (ap (λ (x : Made). madeOutcome x v) (sym f) ∙ newly) in
+          performs-front {v = v} make-fits (ap length image ∙ encode-length (fresh z) fit ∙ sym long) (rw (e, image, heap-encoded fit)) (rw image (held-image fit e)) g
