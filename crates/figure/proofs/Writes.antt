@@ -30,7 +30,7 @@ module _ (b : List ℕ) (at : ℕ) (s : List ℕ) (h : at + length s ≤ length 
   unfolding written
   length-written = omega (arith, length-front, length-append (take at b ++ s) (drop (at + length s) b), length-drop (at + length s) b)
 
-  take-written : take (at + length s) (written b at s) ≡ take at b ++ s
+  pub take-written : take (at + length s) (written b at s) ≡ take at b ++ s
   unfolding written
   take-written = take-at (take at b ++ s) (drop (at + length s) b) (at + length s) length-front
 
