@@ -1,5 +1,4 @@
 """The command program from Python."""
-import os
 import subprocess
 import sys
 from functools import cache
