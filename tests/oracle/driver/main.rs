@@ -13,7 +13,7 @@ use std::io::{self, BufReader, BufWriter, Read, Write};
 fn main() -> io::Result<()> {
     // the collector's panics are answers: only others are worth a message
     std::panic::set_hook(Box::new(|panic| {
-        if session::question_of(panic.payload()).is_none() {
+        if gc::hooks::question_of(panic.payload()).is_none() {
             eprintln!("oracle: {panic}");
         }
     }));

@@ -2,11 +2,8 @@
 
 use crate::command::{Command, Reader, LONGEST_FILE, REGISTERS};
 use crate::{figure, value};
-use gc::error::InterpError;
-use gc::hooks::{self, Limits, NoRoom};
+use gc::hooks::{self, answered, Limits};
 use gc::{Collector, MemoryManager, Pointer, Value};
-use std::any::Any;
-use std::panic::{catch_unwind, AssertUnwindSafe};
 
 /// The number of the first question that got a no.
 type Refusal = u8;
@@ -149,29 +146,6 @@ fn pointer_in(register: &Value) -> Result<Pointer, Refusal> {
     match register {
         Value::Pointer(pointer) => Ok(*pointer),
         _ => Err(13),
-    }
-}
-
-/// What the collector's call returned, its errors and panics as document 01's numbers.
-fn answered<T>(call: impl FnOnce() -> Result<T, InterpError>) -> Result<T, Refusal> {
-    match catch_unwind(AssertUnwindSafe(call)) {
-        Ok(Ok(answer)) => Ok(answer),
-        Ok(Err(InterpError::CannotAllocSize(_))) => Err(5),
-        Ok(Err(InterpError::InvalidMemoryAccess(..))) => Err(8),
-        Err(panic) => Err(question_of(&*panic).unwrap_or_else(|| fail("a panic that no question stands for"))),
-    }
-}
-
-/// The question that a panic stands for.
-pub fn question_of(panic: &(dyn Any + Send)) -> Option<Refusal> {
-    if panic.is::<NoRoom>() {
-        return Some(7);
-    }
-    match *panic.downcast_ref::<&str>()? {
-        "called `Option::unwrap()` on a `None` value" => Some(6),
-        "attempt to add with overflow" => Some(9),
-        "attempt to subtract with overflow" => Some(10),
-        _ => None,
     }
 }
 
