@@ -1,6 +1,6 @@
 -- What a `WriteBarrier` and the answers over it are in the model.
-use mathlib.Core.Bool.{Bool, true, false, _&&_, not}
-use mathlib.Core.List.{List}
+use mathlib.Core.Bool.{Bool, true, false, _&&_, _||_, not}
+use mathlib.Core.List.{List, [], _∷_}
 use Prim.Native.Nat.{ℕ, _%_, _/_}
 use lib.Dec.{eqb}
 use lib.ListN.{take}
@@ -34,6 +34,13 @@ counted c = answerOf (c .answer) (c .barrier)
 -- the first word of a cell that points to another heap than own
 unfoldable pub crossing : ℕ → ℕ → Bool
 crossing tag own = eqb (tag % 256) 5 && not (eqb (tag / 256) own)
+
+-- one of these cells, three words each
+unfoldable pub anyCrossing : ℕ → List ℕ → Bool
+anyCrossing own [] = false
+anyCrossing own (a ∷ []) = false
+anyCrossing own (a ∷ x ∷ []) = false
+anyCrossing own (a ∷ x ∷ o ∷ w) = crossing a own || anyCrossing own w
 
 abbrev pub maskList : Masks → List ℕ
 maskList m = take (m .count) (m .places)

@@ -12,7 +12,7 @@ ghost use Rattle.model.specs.Records.{validWords, wholeCells};
 ghost use Rattle.model.specs.Barrier.{countIn, countOut};
 ghost use Rattle.model.specs.Calls.{cellsIn};
 ghost use Rattle.value.specs.Value.{Spelled};
-ghost use Rattle.barrier.specs.Counts.{barrierOf, counted, crossing};
+ghost use Rattle.barrier.specs.Counts.{barrierOf, counted, crossing, anyCrossing};
 
 // Whether a cell with this first word counts. Tested first, since each count step copies the barrier.
 fn crosses(tag: u64, own: u8) -> bool
@@ -26,6 +26,21 @@ fn value_at(cells: &[u64], i: usize) -> Value
     ensures { λ r. ⌜ Spelled (getD (now (cells .entry)) i 0) (getD (now (cells .entry)) (i + 1) 0) (getD (now (cells .entry)) (i + 2) 0) r ⌝ }
 {
     value::value_of(cells[i], cells[i + 1], cells[i + 2])
+}
+
+// Whether some cell counts. Where none does, the barrier, which is long, need not be handed on.
+pub fn any_crosses(cells: &[u64], own: u8) -> bool
+    requires { ⌜ wholeCells (now cells) ≡ true ⌝ }
+    ensures { λ r. ⌜ r ≡ anyCrossing own (now (cells .entry)) ⌝ }
+{
+    let mut i = 0;
+    while i < cells.len() {
+        if crosses(cells[i], own) {
+            return true;
+        }
+        i += 3;
+    }
+    false
 }
 
 pub fn count_cells_in(cells: &[u64], own: u8, barrier: WriteBarrier) -> Counted

@@ -1,6 +1,6 @@
 -- Slot after slot, what is no member counted out.
 use mathlib.Core.Path.{_≡_, refl, sym, _∙_}
-use mathlib.Core.Bool.{Bool, true, false, not}
+use mathlib.Core.Bool.{Bool, true, false, not, _&&_, true≢false}
 use mathlib.Core.List.{List, [], _∷_, _++_}
 use Prim.Native.Nat.{ℕ, suc, _+_, _-_, _*_, _^_, _≤_, _<_}
 use native.Mathlib.Numerals.{add-one}
@@ -21,7 +21,9 @@ use Rattle.theorems.proofs.Cells.{whole-words, words-in}
 use Rattle.theorems.proofs.Lists.{and-parts}
 use Rattle.barrier.specs.declared.Counting.the-variants.{Done, Refused}
 use Rattle.barrier.specs.declared.Counted.{Counted}
-use Rattle.barrier.specs.Counts.{barrierOf, counted}
+use Rattle.barrier.specs.Counts.{barrierOf, counted, anyCrossing}
+use Rattle.barrier.proofs.Steps.{steps-out}
+use Rattle.barrier.proofs.Turns.{quiet}
 use Rattle.trace.specs.Words.{pointer}
 use Rattle.slots.specs.Slots.{Packed}
 use Rattle.slots.proofs.Flat.{flat-split, use-split, use-next}
@@ -39,25 +41,31 @@ unfolding allValid
 valid-right [] b e = e
 valid-right (c ∷ a) b e = let (v, r) = and-parts (valid c) (allValid (a ++ b)) e in valid-right a b r
 
--- `count_slot`
+-- What a slot counts
 
 abbrev slotOut : List Ptr → ℕ → List Cell → Barrier → Res Barrier
 slotOut ps b cs = each (countOut 1) (onlyIf (not (keeps ps b)) cs)
 
-pub slot-none : (ps : List Ptr) (b : ℕ) (w : List ℕ) (z : Barrier) → length w ≡ 0 → ok z ≡ slotOut ps b (cellsIn w) z
-unfolding cellsIn cellsOf
-slot-none ps b w z e = rw e (go (not (keeps ps b)))
+-- whether it has cells to count out
+abbrev Counts : List Ptr → ℕ → List ℕ → Bool
+Counts ps b w = anyCrossing 1 w && not (keeps ps b)
+
+pub quiet-stays : (ps : List Ptr) (b : ℕ) (w : List ℕ) {r : Bool} → r ≡ anyCrossing 1 w → r ≡ false → false ≡ Counts ps b w
+quiet-stays ps b w e q = rw (← e, q)
+
+pub found-stays : (ps : List Ptr) (b : ℕ) (w : List ℕ) {r t : Bool} → r ≡ anyCrossing 1 w → r ≡ true → t ≡ mem samePtr (pointer 1 b 0) ps → not t ≡ Counts ps b w
+found-stays ps b w e q f = rw (← e, q, ← keeps-is ps b, ← f)
+
+slot-stays : (ps : List Ptr) (b : ℕ) (w : List ℕ) (z : Barrier) → wholeCells w ≡ true → Counts ps b w ≡ false → slotOut ps b (cellsIn w) z ≡ ok z
+slot-stays ps b w z h e = go (keeps ps b) (anyCrossing 1 w) refl e
   where
-    go : (t : Bool) → ok z ≡ each (countOut 1) (onlyIf t []) z
-    go true = refl
-    go false = refl
+    go : (t u : Bool) → anyCrossing 1 w ≡ u → (u && not t) ≡ false → each (countOut 1) (onlyIf (not t) (cellsIn w)) z ≡ ok z
+    go true u is e = refl
+    go false false is e = quiet (steps-out 1) w h is z
+    go false true is e = absurd (true≢false e)
 
-module _ (ps : List Ptr) (b : ℕ) {r : Bool} (e : r ≡ mem samePtr (pointer 1 b 0) ps) where
-  pub slot-kept : r ≡ true → (w : List ℕ) (z : Barrier) → ok z ≡ slotOut ps b (cellsIn w) z
-  slot-kept q w z = rw (← keeps-is ps b, ← e, q)
-
-  pub slot-dropped : r ≡ false → (w : List ℕ) (z : Barrier) → each (countOut 1) (cellsIn w) z ≡ slotOut ps b (cellsIn w) z
-  slot-dropped q w z = rw (← keeps-is ps b, ← e, q)
+slot-goes : (ps : List Ptr) (b : ℕ) (w : List ℕ) (z : Barrier) → Counts ps b w ≡ true → slotOut ps b (cellsIn w) z ≡ each (countOut 1) (cellsIn w) z
+slot-goes ps b w z e = rw (and-parts (anyCrossing 1 w) (not (keeps ps b)) e .1)
 
 -- `count_dropped`: the slots from b on, whose words start at `at`, are left
 
@@ -113,20 +121,27 @@ module _ {ps : List Ptr} {ls ws : List ℕ} {ss : List (List Cell)} {z₀ z : Ba
     unfolding countDropped
     next = rw (part-is, words-in (getD ss b []) slot-valid, add-one b) (rw (drop-cons ss b [] inside) at (v .rest))
 
-    module _ (c : Counted) (e : counted c ≡ slotOut ps b (cellsIn part) z) where
+    goes-on : {z′ : Barrier} → slotOut ps b (cellsIn part) z ≡ ok z′ → Left ps ls ws ss z₀ (b + 1) (at + 3 * getD ls b 0) z′
+    goes-on taken = record {
+      packed = v .packed;
+      within = omega arith;
+      place = rw (add-one b) (omega (arith, v .place, long, use-next ss b inside));
+      rest = rw taken at next;
+    }
+
+    pub left-stays : Counts ps b part ≡ false → Left ps ls ws ss z₀ (b + 1) (at + 3 * getD ls b 0) z
+    left-stays e = goes-on (slot-stays ps b part z left-whole e)
+
+    module _ (c : Counted) (d : Counts ps b part ≡ true) (e : counted c ≡ each (countOut 1) (cellsIn part) z) where
+      counted-out : slotOut ps b (cellsIn part) z ≡ counted c
+      counted-out = slot-goes ps b part z d ∙ sym e
+
       pub left-turn : c .answer ≡ Done → Left ps ls ws ss z₀ (b + 1) (at + 3 * getD ls b 0) (barrierOf (c .barrier))
-      left-turn d =
-          let yes : slotOut ps b (cellsIn part) z ≡ ok (barrierOf (c .barrier)) = sym e ∙ rw d in
-          record {
-            packed = v .packed;
-            within = omega arith;
-            place = rw (add-one b) (omega (arith, v .place, long, use-next ss b inside));
-            rest = rw yes at next;
-          }
+      left-turn done = goes-on (counted-out ∙ rw done)
 
       pub left-refused : (q : ℕ) → c .answer ≡ Refused q → counted c ≡ countDropped ps 0 ss z₀
-      left-refused q d =
-          let no : slotOut ps b (cellsIn part) z ≡ refuse q = sym e ∙ rw d in
-          rw d (rw no at next)
+      left-refused q refused =
+          let no : slotOut ps b (cellsIn part) z ≡ refuse q = counted-out ∙ rw refused in
+          rw refused (rw no at next)
 
 pub ruleset laws = (left-begin, left-done, left-end, left-fits, left-fits-3, left-whole)

@@ -4,34 +4,27 @@ use barrier::Counting;
 use barrier::WriteBarrier;
 use barrier::cells;
 ghost use mathlib.Core.Path.{_≡_};
-ghost use mathlib.Core.Bool.{true, not};
+ghost use mathlib.Core.Bool.{true, _&&_, not};
 ghost use Prim.Native.Nat.{_*_, _≤_};
 ghost use lib.ListN.{length};
-ghost use Rattle.model.specs.Lists.{onlyIf};
-ghost use Rattle.model.specs.Res.{each};
 ghost use Rattle.model.specs.Records.{wholeCells};
-ghost use Rattle.model.specs.Barrier.{countOut};
 ghost use Rattle.model.specs.Elder.{keeps, countDropped};
-ghost use Rattle.model.specs.Calls.{cellsIn};
-ghost use Rattle.barrier.specs.Counts.{barrierOf, counted};
+ghost use Rattle.barrier.specs.Counts.{barrierOf, counted, anyCrossing};
 ghost use Rattle.trace.specs.Words.{members};
 ghost use Rattle.slots.specs.Slots.{Packed, slotsOf};
 
-// The cells of the slot at base b, unless (1, b, 0) is a member. A base without an allocation costs no search.
-fn count_slot(slot: &[u64], b: usize, list: &[u64], count: usize, barrier: WriteBarrier) -> Counted
+// Whether the slot at base b has cells to count out: one crosses, and (1, b, 0) is no member.
+fn is_counted(slot: &[u64], b: usize, list: &[u64], count: usize) -> bool
     requires { ⌜ (wholeCells (now slot) ≡ true) × (3 * count ≤ length (now list)) ⌝ }
-    ensures { λ r. ⌜ counted r ≡ each (countOut 1) (onlyIf (not (keeps (members count (now (list .entry))) b)) (cellsIn (now (slot .entry)))) (barrierOf barrier) ⌝ }
+    ensures { λ r. ⌜ r ≡ (anyCrossing 1 (now (slot .entry)) && not (keeps (members count (now (list .entry))) b)) ⌝ }
 {
-    if slot.len() == 0 || trace::find(list, count, 1, b as u64, 0) {
-        return Counted {
-            answer: Counting::Done,
-            barrier,
-        };
+    if cells::any_crosses(slot, 1) {
+        return !trace::find(list, count, 1, b as u64, 0);
     }
-    cells::count_cells_out(slot, 1, barrier)
+    false
 }
 
-// All slots in base order; the first refusal ends it.
+// All slots in base order; the first refusal ends it. The barrier, which is long, is handed on only where something is counted.
 pub fn count_dropped(
     lens: &[u64],
     cells: &[u64],
@@ -48,13 +41,15 @@ pub fn count_dropped(
     let mut b = 0;
     while b < lens.len() {
         let end = at + 3 * lens[b] as usize;
-        let c = count_slot(&cells[at..end], b, list, count, bar);
-        let a = c.answer;
-        let Counting::Done = a else {
-            return c;
-        };
-        let next = c.barrier;
-        bar = next;
+        if is_counted(&cells[at..end], b, list, count) {
+            let c = cells::count_cells_out(&cells[at..end], 1, bar);
+            let a = c.answer;
+            let Counting::Done = a else {
+                return c;
+            };
+            let next = c.barrier;
+            bar = next;
+        }
         at = end;
         b += 1;
     }

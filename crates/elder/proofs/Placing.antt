@@ -1,6 +1,6 @@
 -- An allocation placed, step by step: room asked for, the cells counted in, and put at the new base.
-use mathlib.Core.Path.{_≡_, refl, sym}
-use mathlib.Core.Bool.{true}
+use mathlib.Core.Path.{_≡_, refl, sym, _∙_}
+use mathlib.Core.Bool.{Bool, true, false, not, true≢false}
 use mathlib.Core.List.{List}
 use Prim.Native.Nat.{ℕ, zero, suc, _*_, _/_}
 use native.Mathlib.Omega.{arith}
@@ -19,7 +19,9 @@ use Rattle.theorems.proofs.Cells.{whole-back, whole-valid, whole-length}
 use Rattle.theorems.proofs.Does.{does-then, does-refused, does-same}
 use Rattle.theorems.proofs.Image.{image-decode}
 use Rattle.theorems.proofs.Res.{each-holds, holds-at}
-use Rattle.barrier.specs.Counts.{barrierOf, countingAnswer, counted}
+use Rattle.barrier.specs.Counts.{barrierOf, countingAnswer, counted, anyCrossing}
+use Rattle.barrier.proofs.Steps.{steps-in}
+use Rattle.barrier.proofs.Turns.{quiet}
 use Rattle.barrier.specs.declared.Counting.{Counting}
 use Rattle.barrier.specs.declared.Counting.the-variants as counting
 use Rattle.barrier.specs.declared.Counted.{Counted}
@@ -49,6 +51,15 @@ module _ (cs : List Cell) {w : List ℕ} {b : Barrier} (r : Reads (λ h. h .old 
   pub count-refused : {v : List ℕ} (q : ℕ) → c .answer ≡ counting.Refused q → Does (countStep cs) w (countingAnswer (counting.Refused q)) v
   unfolding countingAnswer
   count-refused q a = record { does = λ h i. rw (count-is h i, a) refl }
+
+-- where none crosses, nothing changes
+pub count-quiet : (src : List ℕ) {w : List ℕ} {r : Bool} → wholeCells src ≡ true → r ≡ anyCrossing 1 src → not r ≡ true → Does (countStep (cellsIn src)) w (countingAnswer counting.Done) w
+unfolding countStep countingAnswer withOld withOldBar
+count-quiet src {r = r} whole e q = record { does = λ h i. rw (quiet (steps-in 1) src whole (sym e ∙ is-false r q) (h .old .bar)) (refl, i) }
+  where
+    is-false : (t : Bool) → not t ≡ true → t ≡ false
+    is-false true h = absurd (true≢false (sym h))
+    is-false false h = refl
 
 -- `place` and `place_new`: room for k cells, and these put
 

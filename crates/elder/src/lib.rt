@@ -124,12 +124,15 @@ pub fn collect(image: &mut [u64], roots: &[u64], masks: &[u64], list: &mut [u64]
 
 // ---- Placing
 
-// The cells counted in.
+// The cells counted in. The barrier is loaded only where one counts.
 fn count_in(image: &mut [u64], src: &[u64]) -> Counting
     requires { ⌜ Image (now image) (decode (now image)) ⌝ }
     requires { ⌜ wholeCells (now src) ≡ true ⌝ }
     ensures { λ r. ⌜ Does (countStep (cellsIn (now (src .entry)))) (now (image .entry)) (countingAnswer r) (now (image .exit)) ⌝ }
 {
+    if !cells::any_crosses(src, 1) {
+        return Counting::Done;
+    }
     let c = cells::count_cells_in(src, 1, fields::old_barrier(image));
     let a = c.answer;
     match a {

@@ -1,10 +1,12 @@
 use borrow.Author.Needs.{needs}
+use mathlib.Core.Logic.{⊎-elim}
+use mathlib.Core.Path.{sym, _∙_}
 use Prim.Native.Nat.{_-_}
 use lib.ListN.{length}
 use Rattle.barrier.specs.Counts.{barrierOf}
 use Rattle.trace.specs.Words.{members}
 use Rattle.slots.specs.Slots.{slotsOf}
-use Rattle.drops.proofs.Drops.{Left, laws, left-start, left-turn, left-refused}
+use Rattle.drops.proofs.Drops.{Left, laws, left-start, left-stays, left-turn, left-refused}
 use Rattle.drops.proofs.count_dropped.Statement.{statement}
 use Rattle.drops.proofs.count_dropped.Tie as tie
 
@@ -29,20 +31,41 @@ mul-end-2 c = search (laws, needs)
 add-end : tie.Need-add-end Inv-loop μ-loop
 add-end c = search (laws, needs)
 
-mul-count-slot : tie.Need-mul-count-slot Inv-loop μ-loop
-mul-count-slot c = let h = left-start (c .before .before .loop .inv) (c .before .loop-test .taken) in search needs
+mul-is-counted : tie.Need-mul-is-counted Inv-loop μ-loop
+mul-is-counted c =
+    let t = c .before in
+    let h = left-start (t .before .loop .inv) (t .loop-test .taken) in
+    search needs
 
-sub-count-slot : tie.Need-sub-count-slot Inv-loop μ-loop
-sub-count-slot c = search needs
+sub-is-counted : tie.Need-sub-is-counted Inv-loop μ-loop
+sub-is-counted c = search needs
 
-part-count-slot-start : tie.Need-part-count-slot-start Inv-loop μ-loop
-part-count-slot-start c = search needs
+part-is-counted-start : tie.Need-part-is-counted-start Inv-loop μ-loop
+part-is-counted-start c = search needs
 
-part-count-slot-end : tie.Need-part-count-slot-end Inv-loop μ-loop
-part-count-slot-end c = search (laws, needs)
+part-is-counted-end : tie.Need-part-is-counted-end Inv-loop μ-loop
+part-is-counted-end c = search (laws, needs)
 
-count-slot-requires : tie.Need-count-slot-requires Inv-loop μ-loop
-count-slot-requires c κs = search (laws, needs)
+is-counted-requires : tie.Need-is-counted-requires Inv-loop μ-loop
+is-counted-requires c κs = search (laws, needs)
+
+mul-count-cells-out : tie.Need-mul-count-cells-out Inv-loop μ-loop
+mul-count-cells-out c =
+    let t = c .before .before .before .before in
+    let h = left-start (t .before .loop .inv) (t .loop-test .taken) in
+    search needs
+
+sub-count-cells-out : tie.Need-sub-count-cells-out Inv-loop μ-loop
+sub-count-cells-out c = search needs
+
+part-count-cells-out-start : tie.Need-part-count-cells-out-start Inv-loop μ-loop
+part-count-cells-out-start c = search needs
+
+part-count-cells-out-end : tie.Need-part-count-cells-out-end Inv-loop μ-loop
+part-count-cells-out-end c = search (laws, needs)
+
+count-cells-out-requires : tie.Need-count-cells-out-requires Inv-loop μ-loop
+count-cells-out-requires c κs = search (laws, needs)
 
 enum-told : tie.Need-enum-told Inv-loop μ-loop
 enum-told c = search needs
@@ -52,9 +75,10 @@ enum-told-2 c = search needs
 
 returns : tie.Need-returns Inv-loop μ-loop
 returns c =
-    let t = c .before .before .before .before .before in
-    let s = c .before .before .count-slot in
-    left-refused (t .before .loop .inv) (t .loop-test .taken) (s .result) (s .ensures) (c .enum-told2 .given .0 .0) (c .enum-told2 .given .1)
+    let s = c .before .before .count-cells-out in
+    let i = c .before .before .before .before in
+    let t = i .before .before .before .before in
+    left-refused (t .before .loop .inv) (t .loop-test .taken) (s .result) (sym (i .before .is-counted .ensures) ∙ i .if1 .taken) (s .ensures) (c .enum-told2 .given .0 .0) (c .enum-told2 .given .1)
 
 add-b : tie.Need-add-b Inv-loop μ-loop
 add-b c = search needs
@@ -64,9 +88,12 @@ loop-less c = search needs
 
 loop-again : tie.Need-loop-again Inv-loop μ-loop
 loop-again c =
-    let t = c .before .before .before .before .before .before in
-    let s = c .before .before .before .count-slot in
-    left-turn (t .before .loop .inv) (t .loop-test .taken) (s .result) (s .ensures) (c .before .enum-told .given .1)
+    let t = c .before .before .before .before in
+    let told = c .before .is-counted .ensures in
+    ⊎-elim
+    (λ w. rw (w .6) (left-turn (t .before .loop .inv) (t .loop-test .taken) (w .2 .result) (sym told ∙ w .0 .taken) (w .2 .ensures) (w .4 .given .1)))
+    (λ w. rw (w .1) (left-stays (t .before .loop .inv) (t .loop-test .taken) (sym told ∙ w .0 .left)))
+    (c .if1 .came)
 
 returns-2 : tie.Need-returns-2 Inv-loop μ-loop
 returns-2 c = search (laws, needs)
@@ -82,11 +109,16 @@ count-dropped-spec =
     shared-slice-read-end
     mul-end-2
     add-end
-    mul-count-slot
-    sub-count-slot
-    part-count-slot-start
-    part-count-slot-end
-    count-slot-requires
+    mul-is-counted
+    sub-is-counted
+    part-is-counted-start
+    part-is-counted-end
+    is-counted-requires
+    mul-count-cells-out
+    sub-count-cells-out
+    part-count-cells-out-start
+    part-count-cells-out-end
+    count-cells-out-requires
     enum-told
     enum-told-2
     returns
