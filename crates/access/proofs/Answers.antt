@@ -1,7 +1,6 @@
 -- The answers of the code's functions against the model's.
 use mathlib.Core.Path.{_≡_, refl, sym, ap, _∙_}
 use mathlib.Core.Bool.{Bool, true, false, _&&_}
-use mathlib.Core.List.{List}
 use Prim.Native.Nat.{ℕ, zero, suc, _+_, _-_, _≤_, _<_}
 use native.Mathlib.Omega.{arith}
 use lib.Dec.{ltb, leb}
@@ -13,11 +12,7 @@ use borrow.Author.Tests.{ltb-true, leb-true}
 use Rattle.model.specs.Res.{Res, ok, refuse, _>>=_, ask}
 use Rattle.model.specs.Records.{Ptr, Cell, blank, biased, sumFits, validWords}
 use Rattle.model.specs.Heap.{Heap}
-use Rattle.model.specs.Image.{decode, sized, formed}
 use Rattle.model.specs.Collector.{youngAt, read}
-use Rattle.model.specs.Calls.{opened}
-use Rattle.theorems.specs.Fit.{Image}
-use Rattle.theorems.proofs.Image.{image-of}
 use Rattle.value.specs.declared.Value.{Value}
 use Rattle.value.specs.declared.Pointer.{Pointer}
 use Rattle.value.specs.Value.{valueCell, Spelled}
@@ -25,9 +20,7 @@ use Rattle.trace.specs.Words.{pointer}
 use Rattle.slots.specs.Slots.{answer, validOld, ReadBy}
 use Rattle.slots.specs.declared.Old.{Old}
 use Rattle.slots.specs.declared.Old.the-variants.{At, Nothing}
-use Rattle.image.specs.Answers.{checkedAnswer, imageAsked}
-use Rattle.image.specs.declared.Checked.{Checked}
-use Rattle.image.specs.declared.Checked.the-variants.{Formed, Refused}
+use Rattle.image.specs.declared.Checked.the-variants.{Refused}
 use Rattle.access.specs.Access.{pointerOf, loadedCell, placeAnswer}
 use Rattle.access.specs.declared.Loaded.the-variants as loaded
 use Rattle.access.specs.declared.places.Place.{Place}
@@ -90,31 +83,3 @@ other-heap h p l = go (p .heap) refl
     go zero e = absurd (omega arith)
     go (suc zero) e = absurd (omega arith)
     go (suc (suc k)) e = rw e
-
--- 1 and 2
-
-module _ (w : List ℕ) {r : Checked} (e : checkedAnswer r ≡ imageAsked w) where
-  passed : r ≡ Formed → (sized w ≡ true) × (formed w ≡ true)
-  unfolding checkedAnswer imageAsked
-  passed f = go (sized w) (formed w) (ap checkedAnswer (sym f) ∙ e)
-    where
-      go : (a b : Bool) → ok tt ≡ (ask 1 a >>= λ _. ask 2 b) → (a ≡ true) × (b ≡ true)
-      go true true k = (refl, refl)
-      go true false k = let z : _≡_ {A = ℕ} 0 1 = cc in absurd (omega arith)
-      go false b k = let z : _≡_ {A = ℕ} 0 1 = cc in absurd (omega arith)
-
-  pub formed-image : r ≡ Formed → Image w (decode w)
-  formed-image f = image-of w (passed f .0) (passed f .1)
-
-  pub formed-opened : {A : Type 0} (k : Heap → Res A) → r ≡ Formed → k (decode w) ≡ (opened w >>= k)
-  unfolding opened
-  formed-opened k f = rw (passed f .0, passed f .1)
-
-  pub refused-opened : {A : Type 0} (k : Heap → Res A) (q : ℕ) → r ≡ Refused q → refuse q ≡ (opened w >>= k)
-  unfolding checkedAnswer imageAsked opened
-  refused-opened {A} k q f = go (sized w) (formed w) (ap checkedAnswer (sym f) ∙ e)
-    where
-      go : (a b : Bool) → refuse q ≡ (ask 1 a >>= λ _. ask 2 b) → refuse q ≡ ((ask 1 a >>= λ _. ask 2 b >>= λ _. ok (decode w)) >>= k)
-      go true true t = let z : _≡_ {A = ℕ} 0 1 = cc in absurd (omega arith)
-      go true false t = let z : q ≡ 2 = cc in ap refuse z
-      go false b t = let z : q ≡ 1 = cc in ap refuse z

@@ -2,3 +2,4 @@ pub mod Sums
 pub mod Cells
 pub mod Answers
 pub mod Writes
+pub mod Counted

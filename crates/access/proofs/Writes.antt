@@ -1,6 +1,6 @@
 -- A write, step by step: the barrier, then the cell.
 use mathlib.Core.Path.{_≡_, refl, sym, ap, _∙_}
-use mathlib.Core.Bool.{Bool, true, false, _&&_, _||_, not}
+use mathlib.Core.Bool.{Bool, true, false}
 use mathlib.Core.List.{List, [], _∷_}
 use Prim.Native.Nat.{ℕ, zero, suc, _≤_, _<_}
 use native.Mathlib.Omega.{arith}
@@ -9,38 +9,25 @@ use lib.IntN.{ℤ}
 use lib.ListN.{length, getD, set}
 use mir.Syntax.{w64}
 use mir.Val.{ofZ}
-use types.Run.{OneOf, miss}
-use denote.Enum.Declared.{tagOf}
-use borrow.Author.Tests.{ltb-true, lt-ltb, not-true, not-false, eqb-true}
-use Rattle.model.specs.Res.{Res, ok, refuse, _>>=_, ask, Holds}
-use Rattle.model.specs.Records.{Ptr, Cell, plain, ref, blank, cellWords, valid, validWords, wholeCells}
+use borrow.Author.Tests.{ltb-true, lt-ltb, eqb-true}
+use Rattle.model.specs.Res.{Res, ok, refuse, _>>=_, ask}
+use Rattle.model.specs.Records.{Ptr, Cell, blank, cellWords, valid, validWords, wholeCells}
 use Rattle.model.specs.Barrier.{Barrier, countIn, countOut}
 use Rattle.model.specs.Heap.{Nursery, Heap}
 use Rattle.model.specs.Image.{decode}
 use Rattle.model.specs.Collector.{youngAt, oldAt, read, outYoung, writeYoung, writeOld, inYoung, inOld, write}
 use Rattle.model.specs.Calls.{valueGood, writeOn, left}
-use Rattle.theorems.specs.Fit.{FitBarrier, Image}
+use Rattle.theorems.specs.Fit.{Image}
 use Rattle.theorems.specs.Does.{withYoung, withOld}
-use Rattle.theorems.proofs.Barrier.{in-fit, out-fit}
 use Rattle.theorems.proofs.Cells.{cell-valid, cell-words}
 use Rattle.theorems.proofs.Image.{image-decode}
 use Rattle.theorems.proofs.Lists.{and-left, and-right}
-use Rattle.theorems.proofs.Res.{bind, holds-at}
-use Rattle.value.proofs.Value.{the-type}
 use Rattle.value.specs.declared.Pointer.{Pointer}
-use Rattle.value.specs.declared.Value.{Value}
-use Rattle.value.specs.declared.Value.the-variants.{Uninitialized, Int, Bool as BoolV, Float as FloatV, Char, Pointer as PointerV}
-use Rattle.value.specs.Value.{valueCell}
 use Rattle.trace.specs.Words.{pointer}
-use Rattle.barrier.specs.Counts.{barrierOf, answerOf, counted}
-use Rattle.barrier.specs.declared.WriteBarrier.{WriteBarrier}
-use Rattle.barrier.specs.declared.Counting.{Counting}
-use Rattle.barrier.specs.declared.Counting.the-variants as counting
-use Rattle.barrier.specs.declared.Counted.{Counted}
 use Rattle.layout.specs.Elder.{withSlots, WrittenIn}
-use Rattle.fields.specs.Fields.{Reads, Turns, onYoung, onOld, withBar, withOldBar, withCell, cellIn}
+use Rattle.fields.specs.Fields.{Turns, onYoung, onOld, withBar, withOldBar, withCell, cellIn}
 use Rattle.access.specs.Access.{pointerOf, storedOutcome}
-use Rattle.access.specs.Counting.{across, outIf, recounted, countYoung, countOld, storeYoung, storeOld, Leaves, done, kept}
+use Rattle.access.specs.Counting.{outIf, recounted, countYoung, countOld, storeYoung, storeOld, Leaves, done, kept}
 use Rattle.access.specs.declared.Stored.{Stored}
 use Rattle.access.specs.declared.Stored.the-variants.{Done, Refused}
 use Rattle.access.proofs.Answers.{pointer-is}
@@ -51,7 +38,7 @@ done-of : {m : Res Heap} {w v : List ℕ} {r : Stored} → Leaves m w r v → r 
 done-of (done {h = h} i) e = (h, refl, i)
 done-of kept e = let z : _≡_ {A = ℕ} 0 1 = cc in absurd (omega arith)
 
-refused-of : {m : Res Heap} {w v : List ℕ} {r : Stored} {q : ℕ} → Leaves m w r v → r ≡ Refused q → (m ≡ refuse q) × (v ≡ w)
+pub refused-of : {m : Res Heap} {w v : List ℕ} {r : Stored} {q : ℕ} → Leaves m w r v → r ≡ Refused q → (m ≡ refuse q) × (v ≡ w)
 refused-of {q = q} (done i) e = let z : _≡_ {A = ℕ} 0 1 = cc in absurd (omega arith)
 refused-of {q = q} (kept {q = p}) e = let z : p ≡ q = cc in (ap refuse z, refl)
 
@@ -63,79 +50,8 @@ leaves-left kept = refl
 pub left-refused : {m : Res Heap} {w v : List ℕ} (q : ℕ) → m ≡ refuse q → v ≡ w → Leaves m w (Refused q) v
 left-refused q e f = rw (e, f) kept
 
--- the counts
-
-pub across-plain : (own : ℕ) (v : Value) → OneOf (0 ∷ 1 ∷ 2 ∷ 3 ∷ 4 ∷ []) (tagOf the-type v) → false ≡ across own (valueCell v)
-unfolding across valueCell blank
-across-plain own Uninitialized k = refl
-across-plain own (Int x) k = refl
-across-plain own (BoolV b) k = refl
-across-plain own (FloatV n b) k = refl
-across-plain own (Char c) k = refl
-across-plain own (PointerV p) k = absurd (miss (0 ∷ 1 ∷ 2 ∷ 3 ∷ 4 ∷ []) 5 tt k)
-
-pub across-pointer : (own : ℕ) (v : Value) (p : Pointer) → v ≡ PointerV p → not (eqb (p .heap) own) ≡ across own (valueCell v)
-unfolding across valueCell
-across-pointer own v p e = rw e
-
--- counted out with a refusal, and with an answer
-
-module _ (own : ℕ) (new : Cell) {m : Res Barrier} (x : Counted) (e : counted x ≡ m) where
-  pub out-refused : (q : ℕ) → x .answer ≡ counting.Refused q → counted x ≡ (m >>= countIn own new)
-  out-refused q a = let f : m ≡ refuse q = sym e ∙ ap (λ (y : Counting). answerOf y (x .barrier)) a in e ∙ rw f
-
-  pub out-done : x .answer ≡ counting.Done → countIn own new (barrierOf (x .barrier)) ≡ (m >>= countIn own new)
-  out-done a = let f : m ≡ ok (barrierOf (x .barrier)) = sym e ∙ ap (λ (y : Counting). answerOf y (x .barrier)) a in rw f
-
-in-quiet : (own : ℕ) (c : Cell) (b : Barrier) → across own c ≡ false → countIn own c b ≡ ok b
-unfolding across countIn
-in-quiet own (plain k v) b e = refl
-in-quiet own (ref p) b e = rw (not-false (eqb (p .heap) own) e, countIn)
-
-out-quiet : (own : ℕ) (c : Cell) (b : Barrier) → across own c ≡ false → countOut own c b ≡ ok b
-unfolding across countOut
-out-quiet own (plain k v) b e = refl
-out-quiet own (ref p) b e = rw (not-false (eqb (p .heap) own) e, countOut)
-
-quiet : (own : ℕ) (out : Bool) (old new : Cell) (b : Barrier) → (across own new || (out && across own old)) ≡ false → recounted own out old new b ≡ ok b
-unfolding recounted
-quiet own out old new b e = go out (across own new) refl e
-  where
-    go : (t n : Bool) → across own new ≡ n → (n || (t && across own old)) ≡ false → (outIf t own old b >>= countIn own new) ≡ ok b
-    go t true f k = let z : _≡_ {A = ℕ} 0 1 = cc in absurd (omega arith)
-    go true false f k = rw (out-quiet own old b k) (in-quiet own new b f)
-    go false false f k = in-quiet own new b f
-
-recounted-fit : (own : ℕ) (out : Bool) (old new : Cell) (b : Barrier) → FitBarrier b → Holds FitBarrier (recounted own out old new b)
-unfolding recounted
-recounted-fit own true old new b f = bind (countIn own new) (out-fit own old b f) (λ w g. in-fit own new w g)
-recounted-fit own false old new b f = in-fit own new b f
-
-module _ (own : ℕ) (f : Barrier → Heap → Heap) (bar : Heap → Barrier) (out : Bool) (old new : Cell) {w : List ℕ} (i : Image w (decode w)) where
-  abbrev stepped : Res Heap
-  stepped = recounted own out old new (bar (decode w)) >>= λ b. ok (f b (decode w))
-
-  pub quiet-leaves : {r : Bool} → f (bar (decode w)) (decode w) ≡ decode w → r ≡ (across own new || (out && across own old)) → not r ≡ true → Leaves stepped w Done w
-  quiet-leaves {r} e p q = rw (quiet own out old new (bar (decode w)) (sym p ∙ not-true r q), e) (done i)
-
-  module _ (b : WriteBarrier) (c : Counted) (s : Reads bar w (barrierOf b)) (e : counted c ≡ recounted own out old new (barrierOf b)) where
-    was : counted c ≡ recounted own out old new (bar (decode w))
-    was = rw (s .reads (decode w) i) e
-
-    given : c .answer ≡ counting.Done → recounted own out old new (bar (decode w)) ≡ ok (barrierOf (c .barrier))
-    given a = sym was ∙ ap (λ (x : Counting). answerOf x (c .barrier)) a
-
-    pub fit-counted : FitBarrier (bar (decode w)) → c .answer ≡ counting.Done → FitBarrier (barrierOf (c .barrier))
-    fit-counted g a = holds-at (recounted-fit own out old new (bar (decode w)) g) (given a)
-
-    pub counted-leaves : {v : List ℕ} → c .answer ≡ counting.Done → Turns (f (barrierOf (c .barrier))) w v → Leaves stepped w Done v
-    counted-leaves a t = rw (given a) (done (t .turns (decode w) i))
-
-    pub refused-leaves : (q : ℕ) → c .answer ≡ counting.Refused q → Leaves stepped w (Refused q) w
-    refused-leaves q a = left-refused q (ap (λ m. m >>= λ b. ok (f b (decode w))) (sym was ∙ ap (λ (x : Counting). answerOf x (c .barrier)) a)) refl
-
 -- the barrier that was counted
-some-barrier : (f : Barrier → Heap) (m : Res Barrier) {w v : List ℕ} {r : Stored} → Leaves (m >>= λ b. ok (f b)) w r v → r ≡ Done → (b : Barrier) × (m ≡ ok b) × Image v (f b)
+pub some-barrier : (f : Barrier → Heap) (m : Res Barrier) {w v : List ℕ} {r : Stored} → Leaves (m >>= λ b. ok (f b)) w r v → r ≡ Done → (b : Barrier) × (m ≡ ok b) × Image v (f b)
 some-barrier f (ok b) l e = let (h, p, i) = done-of l e in let q : h ≡ f b = cc in (b, refl, rw (← q) i)
 some-barrier f (refuse q) l e = let (h, p, i) = done-of l e in let z : _≡_ {A = ℕ} 0 1 = cc in absurd (omega arith)
 

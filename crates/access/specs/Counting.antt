@@ -1,23 +1,17 @@
 -- What a write counts, and what it leaves.
-use mathlib.Core.Bool.{Bool, true, false, not}
+use mathlib.Core.Bool.{Bool, true, false}
 use mathlib.Core.List.{List}
 use Prim.Native.Nat.{ℕ}
-use lib.Dec.{eqb}
 use Rattle.model.specs.Res.{Res, ok, refuse, _>>=_}
-use Rattle.model.specs.Records.{Cell, plain, ref}
+use Rattle.model.specs.Records.{Cell}
 use Rattle.model.specs.Barrier.{Barrier, countIn, countOut}
 use Rattle.model.specs.Heap.{Heap}
 use Rattle.model.specs.Collector.{writeYoung, writeOld}
 use Rattle.theorems.specs.Fit.{Image}
 use Rattle.theorems.specs.Does.{withYoung, withOld}
-use Rattle.fields.specs.Fields.{onYoung, onOld, withBar, withOldBar}
+use Rattle.fields.specs.Fields.{onYoung, onOld, withBar, withOldBar, barOf, onBar}
 use Rattle.access.specs.declared.Stored.{Stored}
 use Rattle.access.specs.declared.Stored.the-variants.{Done, Refused}
-
--- a pointer to another heap than own
-unfoldable pub across : ℕ → Cell → Bool
-across own (plain k v) = false
-across own (ref p) = not (eqb (p .heap) own)
 
 abbrev pub outIf : Bool → ℕ → Cell → Barrier → Res Barrier
 outIf true own c b = countOut own c b
@@ -26,6 +20,10 @@ outIf false own c b = ok b
 -- the old cell counted out, if it is, then the new one in
 unfoldable pub recounted : ℕ → Bool → Cell → Cell → Barrier → Res Barrier
 recounted own out old new b = outIf out own old b >>= countIn own new
+
+-- a step on the barrier of heap own
+unfoldable pub onCounts : ℕ → (Barrier → Res Barrier) → Heap → Res Heap
+onCounts own f h = f (barOf own h) >>= λ b. ok (onBar own b h)
 
 unfoldable pub countYoung : Bool → Cell → Cell → Heap → Res Heap
 countYoung out old new h = recounted 0 out old new (h .young .bar) >>= λ b. ok (onYoung (withBar b) h)

@@ -1,48 +1,75 @@
-// What a write counts: the old cell out, then the new value in.
-use barrier::Counted;
-use barrier::Counting;
+// What a write counts, in the image's words: it changes one or two of a barrier's 256 counts, so the barrier is not loaded.
+use crate::Stored;
 use barrier::WriteBarrier;
 use value::Value;
-ghost use mathlib.Core.Path.{_≡_};
-ghost use mathlib.Core.Bool.{_&&_, _||_};
+ghost use Rattle.model.specs.Barrier.{countIn, countOut};
+ghost use Rattle.model.specs.Image.{decode};
+ghost use Rattle.theorems.specs.Fit.{Image};
 ghost use Rattle.value.specs.Value.{valueCell};
-ghost use Rattle.barrier.specs.Counts.{barrierOf, counted};
-ghost use Rattle.access.specs.Counting.{across, recounted};
+ghost use Rattle.access.specs.Counting.{recounted, onCounts, Leaves};
 
-fn crosses(own: u8, v: Value) -> bool
-    ensures { λ r. ⌜ r ≡ across own (valueCell v) ⌝ }
+// The bound of each count.
+const MOST: u64 = 4294967295;
+
+// A value of heap `own` counted in: only a pointer to the other heap counts.
+fn count_in(image: &mut [u64], own: u8, v: Value) -> Stored
+    requires { ⌜ Image (now image) (decode (now image)) ⌝ }
+    ensures { λ r. ⌜ Leaves (onCounts own (countIn own (valueCell v)) (decode (now (image .entry)))) (now (image .entry)) r (now (image .exit)) ⌝ }
 {
     let Value::Pointer(p) = v else {
-        return false;
+        return Stored::Done;
     };
-    p.heap != own
+    if p.heap == own {
+        return Stored::Done;
+    }
+    let at = WriteBarrier::place(p.base);
+    let n = fields::count_at(image, own, at);
+    if MOST <= n {
+        return Stored::Refused(11);
+    }
+    fields::put_count(image, own, at, n + 1);
+    Stored::Done
 }
 
-// Whether anything is counted: otherwise the barrier, 256 words long, is not loaded.
-pub fn is_counted(own: u8, out: bool, old: Value, new: Value) -> bool
-    ensures { λ r. ⌜ r ≡ (across own (valueCell new) || (out && across own (valueCell old))) ⌝ }
+// The same counted out; an absent barrier stays absent.
+fn count_out(image: &mut [u64], own: u8, v: Value) -> Stored
+    requires { ⌜ Image (now image) (decode (now image)) ⌝ }
+    ensures { λ r. ⌜ Leaves (onCounts own (countOut own (valueCell v)) (decode (now (image .entry)))) (now (image .entry)) r (now (image .exit)) ⌝ }
 {
-    if crosses(own, new) {
-        return true;
+    let Value::Pointer(p) = v else {
+        return Stored::Done;
+    };
+    if p.heap == own {
+        return Stored::Done;
     }
-    if out {
-        return crosses(own, old);
+    if !fields::is_present(image, own) {
+        return Stored::Done;
     }
-    false
+    let at = WriteBarrier::place(p.base);
+    let n = fields::count_at(image, own, at);
+    if n == 0 {
+        return Stored::Refused(10);
+    }
+    fields::put_count(image, own, at, n - 1);
+    Stored::Done
 }
 
-// The old cell is counted out only if `out`.
-pub fn recount(b: WriteBarrier, own: u8, out: bool, old: Value, new: Value) -> Counted
-    ensures { λ r. ⌜ counted r ≡ recounted own out (valueCell old) (valueCell new) (barrierOf b) ⌝ }
+// The old cell is counted out only if `out`. If the new one is then refused, the old one is counted in again.
+pub fn recount(image: &mut [u64], own: u8, out: bool, old: Value, new: Value) -> Stored
+    requires { ⌜ Image (now image) (decode (now image)) ⌝ }
+    ensures { λ r. ⌜ Leaves (onCounts own (recounted own out (valueCell old) (valueCell new)) (decode (now (image .entry)))) (now (image .entry)) r (now (image .exit)) ⌝ }
 {
     if !out {
-        return b.count_in(own, new);
+        return count_in(image, own, new);
     }
-    let c = b.count_out(own, old);
-    let a = c.answer;
-    let Counting::Done = a else {
-        return c;
+    let gone = count_out(image, own, old);
+    let Stored::Done = gone else {
+        return gone;
     };
-    let next = c.barrier;
-    next.count_in(own, new)
+    let come = count_in(image, own, new);
+    let Stored::Refused(q) = come else {
+        return Stored::Done;
+    };
+    count_in(image, own, old);
+    Stored::Refused(q)
 }

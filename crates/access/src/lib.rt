@@ -3,7 +3,6 @@
 mod counts;
 pub mod places;
 
-use barrier::Counting;
 use image::Checked;
 use places::Place;
 use slots::Old;
@@ -107,19 +106,7 @@ fn count_young(image: &mut [u64], out: bool, old: Value, new: Value) -> Stored
     requires { ⌜ Image (now image) (decode (now image)) ⌝ }
     ensures { λ r. ⌜ Leaves (countYoung out (valueCell old) (valueCell new) (decode (now (image .entry)))) (now (image .entry)) r (now (image .exit)) ⌝ }
 {
-    if !counts::is_counted(0, out, old, new) {
-        return Stored::Done;
-    }
-    let c = counts::recount(fields::young_barrier(image), 0, out, old, new);
-    let a = c.answer;
-    match a {
-        Counting::Done => {
-            let next = c.barrier;
-            fields::put_young_barrier(image, next);
-            Stored::Done
-        }
-        Counting::Refused(q) => Stored::Refused(q),
-    }
+    counts::recount(image, 0, out, old, new)
 }
 
 // The cell takes the place of the i-th, which counts only below the cursor.
@@ -160,19 +147,7 @@ fn count_old(image: &mut [u64], old: Value, new: Value) -> Stored
     requires { ⌜ Image (now image) (decode (now image)) ⌝ }
     ensures { λ r. ⌜ Leaves (countOld (valueCell old) (valueCell new) (decode (now (image .entry)))) (now (image .entry)) r (now (image .exit)) ⌝ }
 {
-    if !counts::is_counted(1, true, old, new) {
-        return Stored::Done;
-    }
-    let c = counts::recount(fields::old_barrier(image), 1, true, old, new);
-    let a = c.answer;
-    match a {
-        Counting::Done => {
-            let next = c.barrier;
-            fields::put_old_barrier(image, next);
-            Stored::Done
-        }
-        Counting::Refused(q) => Stored::Refused(q),
-    }
+    counts::recount(image, 1, true, old, new)
 }
 
 // The cell takes the place of the old one at (base, offset), which is there.

@@ -45,7 +45,7 @@ impl WriteBarrier {
     }
 
     // Where a base is counted.
-    fn place(base: u64) -> usize
+    pub fn place(base: u64) -> usize
         ensures { λ r. ⌜ r ≡ base % 256 ⌝ }
     {
         (base & Self::MASK) as usize

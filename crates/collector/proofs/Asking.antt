@@ -1,6 +1,6 @@
 -- What alloc asks, in order: 1 and 2 of the image, 3 of the roots, 4 of scratch, 5 of the amount; then whether the amount stays young.
 use mathlib.Core.Path.{_≡_, refl, sym, ap, _∙_}
-use mathlib.Core.Bool.{Bool, true, false, _&&_}
+use mathlib.Core.Bool.{true, false, _&&_}
 use mathlib.Core.List.{List, [], _∷_}
 use Prim.Native.Nat.{ℕ, _+_, _-_, _*_, _/_, _^_, _≤_, _<_}
 use native.Mathlib.Omega.{arith}
@@ -13,9 +13,9 @@ use mir.Val.{Fits, SFits, toZ, ofZ}
 use mir.ValLaws.{toZ-ofZ}
 use borrow.Author.Tests.{leb-true, leb-false, lt-ltb, le-ltb, le-leb, lt-leb}
 use Rattle.model.specs.Lists.{sum}
-use Rattle.model.specs.Res.{ok, _>>=_, ask}
+use Rattle.model.specs.Res.{ok}
 use Rattle.model.specs.Records.{wholeCells, whole}
-use Rattle.model.specs.Image.{decode, sized, formed}
+use Rattle.model.specs.Image.{decode}
 use Rattle.model.specs.Nursery.{bump}
 use Rattle.model.specs.Elder.{sweepsOf}
 use Rattle.model.specs.Collector.{alloc, collectAndAlloc, fourCounts}
@@ -23,7 +23,6 @@ use Rattle.model.specs.Calls.{Outcome, cellsIn, rootsGood, scratchLength, alloc
 use Rattle.theorems.specs.Fit.{Image}
 use Rattle.theorems.specs.Does.{withYoung}
 use Rattle.theorems.proofs.Cells.{whole-back}
-use Rattle.theorems.proofs.Image.{image-of}
 use Rattle.theorems.proofs.Lists.{and-parts}
 use Rattle.image.specs.Answers.{checkedAnswer, imageAsked}
 use Rattle.image.specs.Places.{imageEnd}
@@ -38,15 +37,6 @@ use Rattle.collector.specs.declared.Allocated.the-variants.{At, Refused}
 -- 1 and 2
 
 module _ (w : List ℕ) {r : Checked} (e : checkedAnswer r ≡ imageAsked w) where
-  pub formed-image : r ≡ checked.Formed → Image w (decode w)
-  unfolding checkedAnswer imageAsked
-  formed-image f = go (sized w) (formed w) refl refl (ap checkedAnswer (sym f) ∙ e)
-    where
-      go : (s t : Bool) → sized w ≡ s → formed w ≡ t → ok tt ≡ (ask 1 s >>= λ _. ask 2 t) → Image w (decode w)
-      go true true p q k = image-of w p q
-      go true false p q k = let z : _≡_ {A = ℕ} 0 1 = cc in absurd (omega arith)
-      go false t p q k = let z : _≡_ {A = ℕ} 0 1 = cc in absurd (omega arith)
-
   module _ (roots : List ℕ) (scratch a : ℕ) where
     pub formed-call : {b : ℕ} → b ≡ a → r ≡ checked.Formed → call (allocs roots scratch a) w ≡ allocated w roots (allocOn (decode w) roots scratch b)
     unfolding call checkedAnswer

@@ -18,7 +18,7 @@ use Rattle.model.specs.Calls.{cellsIn, rootsGood, scratchLength, allocated}
 use Rattle.theorems.specs.Fit.{Fit, Image}
 use Rattle.theorems.specs.Does.{Meets, Does}
 use Rattle.theorems.specs.Apart.{swapBoth, swapRoots}
-use Rattle.theorems.proofs.Does.{does-then, does-refused, does-same}
+use Rattle.theorems.proofs.Does.{answered, does-then, does-refused, does-same}
 use Rattle.theorems.proofs.Lists.{and-left, and-right}
 use Rattle.theorems.proofs.Res.{bind, holds-at}
 use Rattle.barrier.specs.Counts.{countingAnswer}
@@ -35,7 +35,7 @@ use Rattle.cycle.specs.declared.turns.Request.the-variants.{New}
 use Rattle.cycle.specs.declared.turns.Gave.{Gave}
 use Rattle.cycle.specs.declared.turns.Outcome.{Outcome}
 use Rattle.cycle.specs.declared.turns.Outcome.the-variants.{At, Refused}
-use Rattle.cycle.proofs.Doing.{mapRes, answered, does-map}
+use Rattle.cycle.proofs.Doing.{mapRes, does-map}
 use Rattle.cycle.proofs.Lending.{image-long}
 use Rattle.cycle.proofs.Sizes.{Moved, moved-few}
 use Rattle.words.specs.Words.{padded}

@@ -14,7 +14,7 @@ use Rattle.model.specs.Image.{imageLength, decode}
 use Rattle.model.specs.Calls.{cellsIn, scratchLength}
 use Rattle.theorems.specs.Fit.{Image}
 use Rattle.theorems.specs.Does.{Does}
-use Rattle.theorems.proofs.Does.{does-then, does-refused, does-same}
+use Rattle.theorems.proofs.Does.{answered, does-then, does-refused, does-same}
 use Rattle.theorems.proofs.Res.{holds-at}
 use Rattle.fields.specs.Fields.{Reads}
 use Rattle.elder.specs.Steps.{sweptAnswer, collectStep}
@@ -29,7 +29,7 @@ use Rattle.cycle.specs.declared.turns.Outcome.the-variants.{At, Refused}
 use Rattle.cycle.specs.Scratch.{oldListAt, partsIn, Front, SweptIn, CollectedIn}
 use Rattle.cycle.specs.Turns.{Turn, pick, give, giveIn, tooLarge, mustCollect, alsoSwept, sweepAndGive, againTurn, pushOne, none, finished, collectAndPush, pushTurn, turn}
 use Rattle.cycle.specs.Outcomes.{Asked, Ready, Ran, Gives, outcomeAnswer, gaveTurn, sweptOutcome, keptTo}
-use Rattle.cycle.proofs.Doing.{mapRes, answered, does-map}
+use Rattle.cycle.proofs.Doing.{mapRes, does-map}
 use Rattle.cycle.proofs.Frames.{front-less, young-same, parts-same, saved-same}
 use Rattle.cycle.proofs.Pushing.{Begun}
 use Rattle.cycle.proofs.Turning.{turn-last, push-collected, sweep-few}

@@ -1,14 +1,11 @@
 -- Steps one after the other.
-use mathlib.Core.Path.{_≡_, refl, sym, ap, subst, _∙_}
+use mathlib.Core.Path.{_≡_, refl, sym, ap, _∙_}
 use mathlib.Core.List.{List, [], _∷_, _++_}
 use Prim.Native.Nat.{ℕ}
 use Rattle.model.specs.Res.{Res, ok, refuse, _>>=_, each}
 use Rattle.model.specs.Heap.{Heap}
-use Rattle.model.specs.Image.{decode}
-use Rattle.theorems.specs.Fit.{Image}
 use Rattle.theorems.specs.Does.{Meets, Does}
-use Rattle.theorems.proofs.Does.{does-then, does-refused, does-same}
-use Rattle.theorems.proofs.Image.{image-decode}
+use Rattle.theorems.proofs.Does.{does-then, does-same}
 use Rattle.changes.proofs.Laws.{each-append}
 
 abbrev pub mapRes : {A B : Type 0} → (A → B) → Res A → Res B
@@ -25,16 +22,6 @@ module _ {A B : Type 0} where
       go (ok x) (refuse q) k = absurd k
       go (refuse q) (ok a) k = absurd k
       go (refuse q) (refuse p) k = k
-
--- an answered step leaves an image; of the same sizes, if the step keeps them
-
-module _ {A : Type 0} {step : Heap → Res (A × Heap)} {w v : List ℕ} {a : A} (i : Image w (decode w)) (d : Does step w (ok a) v) where
-  pub answered : (x : A × Heap) × (step (decode w) ≡ ok x) × (a ≡ x .0) × (decode v ≡ x .1) × Image v (decode v)
-  answered = go (step (decode w)) refl (d .does (decode w) i)
-    where
-      go : (m : Res (A × Heap)) → step (decode w) ≡ m → Meets m (ok a) v → (x : A × Heap) × (step (decode w) ≡ ok x) × (a ≡ x .0) × (decode v ≡ x .1) × Image v (decode v)
-      go (ok x) e k = (x, e, k .0, image-decode (k .1), rw (image-decode (k .1)) (k .1))
-      go (refuse q) e k = absurd k
 
 -- a list of steps, each on what the ones before left
 

@@ -16,7 +16,7 @@ use Rattle.model.specs.Image.{imageLength, sizesOf, decode}
 use Rattle.model.specs.Calls.{cellsIn, scratchLength}
 use Rattle.theorems.specs.Fit.{Image}
 use Rattle.theorems.specs.Does.{Does}
-use Rattle.theorems.proofs.Does.{does-then, does-refused, does-same}
+use Rattle.theorems.proofs.Does.{answered, does-then, does-refused, does-same}
 use Rattle.theorems.proofs.Image.{encode-length}
 use Rattle.theorems.proofs.Res.{holds-at}
 use Rattle.trace.specs.Words.{tab, ptrAt, members}
@@ -37,7 +37,7 @@ use Rattle.cycle.specs.declared.turns.Outcome.the-variants.{At, Refused}
 use Rattle.cycle.specs.Scratch.{basesAt, oldListAt, youngIn, partsIn, Saved, Front, CollectedIn}
 use Rattle.cycle.specs.Turns.{Turn, Pushed, none, noted, finished, pushOne, elderTurn, againTurn, collectAndPush, pushTurn, turn}
 use Rattle.cycle.specs.Outcomes.{Asked, Ready, Ran, outcomeAnswer, gaveTurn, finishedOutcome, keptTo}
-use Rattle.cycle.proofs.Doing.{mapRes, answered, does-map, does-none, does-more, does-stop}
+use Rattle.cycle.proofs.Doing.{mapRes, does-map, does-none, does-more, does-stop}
 use Rattle.cycle.proofs.Frames.{front-less, word-same, young-same, parts-same, saved-same, entry-same, members-same, moves-same, members-more, moves-more}
 use Rattle.cycle.proofs.Turning.{Small, elder-small, turn-elder, turn-again, Survive, Survived, collected-survive}
 

@@ -1,2 +1,3 @@
 pub mod Parts
 pub mod Turned
+pub mod Counts

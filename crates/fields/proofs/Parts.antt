@@ -19,7 +19,7 @@ use Rattle.image.proofs.Bounds.{is-sized}
 use Rattle.fields.specs.Fields.{Reads, YoungCells}
 use Rattle.fields.specs.declared.Part.{Part}
 
-cache-is : cache ≡ 256
+pub cache-is : cache ≡ 256
 unfolding cache
 cache-is = refl
 

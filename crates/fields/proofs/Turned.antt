@@ -58,11 +58,11 @@ module _ {f : ℕ} {cs : List ℕ} {b : Barrier} (e : f ≡ flag b) (q : cs ≡ 
   loaded r = sym (r ∙ rw (e, q) (barrier-back b))
 
 module _ {w : List ℕ} {h : Heap} (i : Image w h) where
-  young-flag : getD w 8 0 ≡ flag (h .young .bar)
+  pub young-flag : getD w 8 0 ≡ flag (h .young .bar)
   unfolding encode
   young-flag = ap (λ (l : List ℕ). getD l 8 0) (i .is)
 
-  old-flag : getD w 9 0 ≡ flag (h .old .bar)
+  pub old-flag : getD w 9 0 ≡ flag (h .old .bar)
   unfolding encode
   old-flag = ap (λ (l : List ℕ). getD l 9 0) (i .is)
 

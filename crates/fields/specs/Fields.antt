@@ -1,15 +1,16 @@
 -- What is read from an image, and what becomes of it, whatever heap the words are the image of.
 use mathlib.Core.Path.{_≡_}
+use mathlib.Core.Bool.{Bool, true, false}
 use mathlib.Core.List.{List, [], _∷_}
-use Prim.Native.Nat.{ℕ, suc, _+_, _*_, _≤_}
+use Prim.Native.Nat.{ℕ, zero, suc, _+_, _*_, _≤_}
 use lib.ListN.{length, getD, set, replicate}
 use Rattle.model.specs.Records.{Cell, cellOf}
-use Rattle.model.specs.Barrier.{Barrier}
+use Rattle.model.specs.Barrier.{Barrier, absent, present, counts}
 use Rattle.model.specs.Heap.{Nursery, Elder, Heap}
 use Rattle.theorems.specs.Fit.{Image}
 use Rattle.theorems.specs.Does.{withYoung, withOld}
 use Rattle.value.specs.declared.Words.{Words}
-use Rattle.image.specs.Places.{sizeN, sizeS, youngCellsAt, oldCellsAt}
+use Rattle.image.specs.Places.{sizeN, sizeS, youngCountsAt, oldCountsAt, youngCellsAt, oldCellsAt}
 use Rattle.fields.specs.declared.Part.{Part}
 
 -- r is what f says of the heap
@@ -33,6 +34,34 @@ withBar b y = record { cursor = y .cursor; colls = y .colls; proms = y .proms; b
 
 unfoldable pub withOldBar : Barrier → Elder → Elder
 withOldBar b e = record { colls = e .colls; bar = b; slots = e .slots }
+
+-- the barrier of heap `own`: the nursery's for 0, else the elder's
+
+unfoldable pub barOf : ℕ → Heap → Barrier
+barOf zero h = h .young .bar
+barOf (suc k) h = h .old .bar
+
+unfoldable pub onBar : ℕ → Barrier → Heap → Heap
+onBar zero b h = onYoung (withBar b) h
+onBar (suc k) b h = onOld (withOldBar b) h
+
+unfoldable pub isPresent : Barrier → Bool
+isPresent absent = false
+isPresent (present cs) = true
+
+-- the count at k becomes n, in a barrier that is then present
+unfoldable pub withCount : ℕ → ℕ → Barrier → Barrier
+withCount k n b = present (set (counts b) k n)
+
+-- where its flag and its counts stand
+
+abbrev pub flagAt : ℕ → ℕ
+flagAt zero = 8
+flagAt (suc k) = 9
+
+abbrev pub countsAt : ℕ → ℕ
+countsAt zero = youngCountsAt
+countsAt (suc k) = oldCountsAt
 
 unfoldable pub withCell : ℕ → Cell → Nursery → Nursery
 withCell i c y = record { cursor = y .cursor; colls = y .colls; proms = y .proms; bar = y .bar; lens = y .lens; cells = set (y .cells) i c }

@@ -9,12 +9,12 @@ ghost use mathlib.Core.List.{[], _∷_};
 ghost use Prim.Native.Nat.{_+_, _-_, _*_, _<_, _≤_};
 ghost use lib.ListN.{length, getD};
 ghost use Rattle.model.specs.Records.{blank, cellWords, wholeCells};
-ghost use Rattle.model.specs.Barrier.{most};
+ghost use Rattle.model.specs.Barrier.{most, count};
 ghost use Rattle.model.specs.Image.{decode};
 ghost use Rattle.model.specs.Nursery.{bump, emptied};
 ghost use Rattle.theorems.specs.Fit.{FitBarrier, Image};
 ghost use Rattle.barrier.specs.Counts.{barrierOf};
-ghost use Rattle.fields.specs.Fields.{Reads, Turns, onYoung, onOld, withBar, withOldBar, withCell, restarted, collectedOnce, cellIn, wordsOf, YoungCells, CellAt};
+ghost use Rattle.fields.specs.Fields.{Reads, Turns, onYoung, onOld, withBar, withOldBar, barOf, onBar, isPresent, withCount, flagAt, countsAt, withCell, restarted, collectedOnce, cellIn, wordsOf, YoungCells, CellAt};
 
 pub fn size_n(image: &[u64]) -> u64
     requires { ⌜ Image (now image) (decode (now image)) ⌝ }
@@ -108,6 +108,54 @@ pub fn put_old_barrier(image: &mut [u64], b: WriteBarrier)
 {
     barrier::words::store(b, &mut image[layout::OLD_COUNTS..layout::LENGTHS]);
     image[layout::OLD_PRESENT] = barrier::words::flag_word(b);
+}
+
+// Where a barrier's flag and its k-th count stand: the nursery's for 0, else the elder's.
+fn flag_place(own: u8) -> usize
+    ensures { λ r. ⌜ (r ≡ flagAt own) × (r < 10) ⌝ }
+{
+    if own == 0 {
+        layout::YOUNG_PRESENT
+    } else {
+        layout::OLD_PRESENT
+    }
+}
+
+fn count_place(own: u8, k: usize) -> usize
+    requires { ⌜ k < 256 ⌝ }
+    ensures { λ r. ⌜ (r ≡ countsAt own + k) × (r < 522) ⌝ }
+{
+    if own == 0 {
+        layout::YOUNG_COUNTS + k
+    } else {
+        layout::OLD_COUNTS + k
+    }
+}
+
+pub fn is_present(image: &[u64], own: u8) -> bool
+    requires { ⌜ Image (now image) (decode (now image)) ⌝ }
+    ensures { λ r. ⌜ Reads (λ h. isPresent (barOf own h)) (now (image .entry)) r ⌝ }
+{
+    image[flag_place(own)] == 1
+}
+
+// One count, with no other of the barrier's words loaded.
+pub fn count_at(image: &[u64], own: u8, k: usize) -> u64
+    requires { ⌜ Image (now image) (decode (now image)) ⌝ }
+    requires { ⌜ k < 256 ⌝ }
+    ensures { λ r. ⌜ Reads (λ h. count (barOf own h) k) (now (image .entry)) r ⌝ }
+{
+    image[count_place(own, k)]
+}
+
+// An absent barrier's count words are zero, so that the others are right when it becomes present.
+pub fn put_count(image: &mut [u64], own: u8, k: usize, n: u64)
+    requires { ⌜ Image (now image) (decode (now image)) ⌝ }
+    requires { ⌜ (k < 256) × (n ≤ most) ⌝ }
+    ensures { λ _. ⌜ Turns (λ h. onBar own (withCount k n (barOf own h)) h) (now (image .entry)) (now (image .exit)) ⌝ }
+{
+    image[count_place(own, k)] = n;
+    image[flag_place(own)] = 1;
 }
 
 // Where the nursery's cells stand.

@@ -16,7 +16,7 @@ use Rattle.theorems.specs.Fit.{FitBarrier, Image}
 use Rattle.theorems.specs.Does.{Meets, Does, withYoung, withOld}
 use Rattle.theorems.specs.Apart.{swapBoth}
 use Rattle.theorems.proofs.Barrier.{in-fit, out-fit}
-use Rattle.theorems.proofs.Does.{does-then, does-refused, does-same}
+use Rattle.theorems.proofs.Does.{answered as left-answered, does-then, does-refused, does-same}
 use Rattle.theorems.proofs.Image.{image-decode}
 use Rattle.theorems.proofs.Res.{bind, holds-at}
 use Rattle.barrier.specs.Counts.{barrierOf, answerOf, counted, countingAnswer}
@@ -29,7 +29,6 @@ use Rattle.layout.specs.Elder.{withSlots, Turned}
 use Rattle.changes.specs.Changes.{times, countChange}
 use Rattle.changes.proofs.Laws.{each-times, each-times-flat}
 use Rattle.fields.specs.Fields.{Reads, Turns, onYoung, withBar, withOldBar}
-use Rattle.fields.proofs.Parts.{decoded}
 use Rattle.pointers.specs.Steps.{swappedYoung, countYoung, countOld, youngStep, oldStep, withBoth, changeStep, changesStep, moveAt, movesIn}
 
 -- a step's answer, beside the heap that it leaves
@@ -132,11 +131,7 @@ module _ (m : Ptr × ℕ) {w u v : List ℕ} {a : Counting} (d : Does (youngStep
 -- the image that an answered step leaves
 pub does-image : {f : Heap → Res (Unit {0} × Heap)} {w v : List ℕ} {a : Counting} → Image w (decode w) → Does f w (countingAnswer a) v → a ≡ Done → Image v (decode v)
 unfolding countingAnswer
-does-image {f} {w} {v} i d e = go (f (decode w)) ((rw e at d) .does (decode w) i)
-  where
-    go : (n : Res (Unit {0} × Heap)) → Meets n (ok tt) v → Image v (decode v)
-    go (ok x) k = decoded (k .1)
-    go (refuse q) k = absurd k
+does-image i d e = left-answered i (rw e at d) .4
 
 -- many: the first, then the rest
 

@@ -44,7 +44,7 @@ allAtMost-at m [] i e = zero-le
 allAtMost-at m (x ∷ xs) zero e = leb-true x m (and-left (leb x m) (allAtMost m xs) e)
 allAtMost-at m (x ∷ xs) (suc i) e = allAtMost-at m xs i (and-right (leb x m) (allAtMost m xs) e)
 
-fit-set : (b : Barrier) (i v : ℕ) → v ≤ most → FitBarrier b → FitBarrier (present (set (counts b) i v))
+pub fit-set : (b : Barrier) (i v : ℕ) → v ≤ most → FitBarrier b → FitBarrier (present (set (counts b) i v))
 unfolding counts
 fit-set b i v h f = record { size = length-set (counts b) i v ∙ f .size; bounded = allAtMost-set most (counts b) i v h (f .bounded) }
 

@@ -1,11 +1,13 @@
 -- Operations one after the other.
-use mathlib.Core.Path.{_≡_, subst}
+use mathlib.Core.Path.{_≡_, refl, subst}
 use mathlib.Core.List.{List}
 use Prim.Native.Nat.{ℕ}
 use Rattle.model.specs.Res.{Res, ok, refuse, _>>=_}
 use Rattle.model.specs.Heap.{Heap}
+use Rattle.model.specs.Image.{decode}
 use Rattle.theorems.specs.Fit.{Image}
 use Rattle.theorems.specs.Does.{Meets, Does}
+use Rattle.theorems.proofs.Image.{image-decode}
 
 module _ {A B : Type 0} where
   -- the first is answered: the second goes on where it left off
@@ -30,3 +32,13 @@ module _ {A : Type 0} where
   -- the same step, said in another way
   pub does-same : {f g : Heap → Res (A × Heap)} {w v : List ℕ} {r : Res A} → ((h : Heap) → Image w h → f h ≡ g h) → Does f w r v → Does g w r v
   does-same {f} {g} {w} {v} {r} e d = record { does = λ h i. subst (λ (m : Res (A × Heap)). Meets m r v) (e h i) (d .does h i) }
+
+-- an answered step leaves an image
+
+module _ {A : Type 0} {step : Heap → Res (A × Heap)} {w v : List ℕ} {a : A} (i : Image w (decode w)) (d : Does step w (ok a) v) where
+  pub answered : (x : A × Heap) × (step (decode w) ≡ ok x) × (a ≡ x .0) × (decode v ≡ x .1) × Image v (decode v)
+  answered = go (step (decode w)) refl (d .does (decode w) i)
+    where
+      go : (m : Res (A × Heap)) → step (decode w) ≡ m → Meets m (ok a) v → (x : A × Heap) × (step (decode w) ≡ ok x) × (a ≡ x .0) × (decode v ≡ x .1) × Image v (decode v)
+      go (ok x) e k = (x, e, k .0, image-decode (k .1), rw (image-decode (k .1)) (k .1))
+      go (refuse q) e k = absurd k

@@ -2,7 +2,7 @@ use borrow.Author.Needs.{needs}
 use mathlib.Core.Path.{_∙_}
 use Rattle.model.specs.Collector.{read}
 use Rattle.access.specs.Access.{pointerOf, loadedCell}
-use Rattle.access.proofs.Answers.{formed-image, formed-opened, refused-opened}
+use Rattle.image.proofs.Opened.{formed-image, formed-opened, refused-opened}
 use Rattle.access.proofs.read.Statement.{statement}
 use Rattle.access.proofs.read.Tie as tie
 

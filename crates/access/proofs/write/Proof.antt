@@ -2,7 +2,7 @@ use borrow.Author.Needs.{needs}
 use mathlib.Core.Path.{sym, ap, _∙_}
 use Rattle.model.specs.Calls.{writeOn, left, call}
 use Rattle.access.specs.Access.{pointerOf, storedOutcome}
-use Rattle.access.proofs.Answers.{formed-image, formed-opened, refused-opened}
+use Rattle.image.proofs.Opened.{formed-image, formed-opened, refused-opened}
 use Rattle.access.proofs.write.Statement.{statement}
 use Rattle.access.proofs.write.Tie as tie
 

@@ -3,7 +3,8 @@ use mathlib.Core.Path.{ap, _∙_}
 use mir.Syntax.{w64}
 use mir.Val.{ofZ}
 use mir.ValLaws.{toZ-ofZ}
-use Rattle.collector.proofs.Asking.{formed-image, formed-call, refused-call}
+use Rattle.image.proofs.Opened.{formed-image}
+use Rattle.collector.proofs.Asking.{formed-call, refused-call}
 use Rattle.collector.proofs.alloc.Statement.{statement}
 use Rattle.collector.proofs.alloc.Tie as tie
 

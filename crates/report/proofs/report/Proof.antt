@@ -2,7 +2,7 @@ use borrow.Author.Needs.{needs}
 use mathlib.Core.Path.{sym, ap, _∙_}
 use Rattle.model.specs.Collector.{report}
 use Rattle.model.specs.Calls.{reported, reportCall}
-use Rattle.access.proofs.Answers.{formed-image, formed-opened, refused-opened}
+use Rattle.image.proofs.Opened.{formed-image, formed-opened, refused-opened}
 use Rattle.report.specs.Numbers.{reportOutcome}
 use Rattle.report.proofs.report.Statement.{statement}
 use Rattle.report.proofs.report.Tie as tie
