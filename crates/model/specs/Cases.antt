@@ -1203,6 +1203,8 @@ commandRows =
     ∷ prints ordersRun
     ∷ prints wordsRun
     ∷ prints ownRootRun
+    -- a report collects: the next one finds nothing
+    ∷ prints ((NEW 4 8 8 16, "1 new") ∷ (ALLOC 0 2, "2 alloc 0 0 0 0 0 0 0") ∷ (REPORT, "3 report 0 1 2 0 2 0 0 0 0 0 0") ∷ (REPORT, "4 report 1 0 0 0 4 0 1 0 0 0 0") ∷ [])
     -- 12: a command not known, its operands cut short, a register of 16. A no ends the run
     ∷ prints ((REPORT, "1 no 14") ∷ (0 ∷ REPORT, "2 no 12") ∷ [])
     ∷ prints ((0x4E ∷ 4 ∷ 0 ∷ 8 ∷ 0 ∷ 8 ∷ 0 ∷ 16 ∷ [], "1 no 12") ∷ [])
