@@ -6,6 +6,7 @@ Prints how often each wanted thing was seen, and fails if one was not seen at al
 import argparse
 import sys
 from collections import Counter
+from pathlib import Path
 
 import generate
 import oracle
@@ -36,25 +37,7 @@ WANTED = (
     "file: a thousand commands or more",
 )
 # noted by the hooks inside the collector
-EVENTS = (
-    "allocation replaced",
-    "elder collection after a move of the same call",
-    "foreign member in the elder",
-    "foreign member in the nursery",
-    "foreign member leads on in the elder",
-    "foreign member leads on in the nursery",
-    "last cell taken",
-    "last slot taken",
-    "no cells left",
-    "no slot left",
-    "offsets of both signs into one array",
-    "room of a replaced allocation needed",
-    "several pointers into one array",
-    "start by a mask above 0 of another base",
-    "start by mask 0",
-    "start by the mask of its own base",
-    "young array kept alive by elder cells alone",
-)
+EVENTS = tuple((Path(__file__).parent / "events.txt").read_text().splitlines())
 
 
 class Seen:

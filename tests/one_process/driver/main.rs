@@ -21,25 +21,7 @@ use std::collections::BTreeMap;
 use std::process::exit;
 
 /// What the lists must have reached in the published collector.
-const EVENTS: [&str; 17] = [
-    "allocation replaced",
-    "elder collection after a move of the same call",
-    "foreign member in the elder",
-    "foreign member in the nursery",
-    "foreign member leads on in the elder",
-    "foreign member leads on in the nursery",
-    "last cell taken",
-    "last slot taken",
-    "no cells left",
-    "no slot left",
-    "offsets of both signs into one array",
-    "room of a replaced allocation needed",
-    "several pointers into one array",
-    "start by a mask above 0 of another base",
-    "start by mask 0",
-    "start by the mask of its own base",
-    "young array kept alive by elder cells alone",
-];
+const EVENTS: &str = include_str!("../../oracle/events.txt");
 
 #[derive(Clone, Copy)]
 struct Options {
@@ -181,7 +163,7 @@ fn demand(what: &str, answered: &BTreeMap<u8, u64>, wanted: &[u8]) {
 
 fn demand_events() {
     let seen = gc::hooks::events();
-    for event in EVENTS {
+    for event in EVENTS.lines() {
         if !seen.contains_key(event) {
             fail(&format!("not reached: {event}"));
         }
