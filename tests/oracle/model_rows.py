@@ -31,7 +31,7 @@ use mathlib.Core.List.{{List, [], _∷_}}
 use Prim.Native.Nat.{{ℕ, zero, suc, _+_, _*_, _/_, _%_}}
 use lib.Dec.{{eqb}}
 use lib.ListN.{{take, drop}}
-use Rattle.model.specs.Command.{{listing}}
+use Rattle.model.specs.Listing.{{listing}}
 
 -- so many bytes of a number, the lowest first
 bytes : ℕ → ℕ → List ℕ

@@ -8,13 +8,14 @@ use lib.Dec.{leb}
 use lib.ListN.{length, take, drop, length-drop}
 use lib.Seq.{take-all, getD-take}
 use borrow.Author.Tests.{leb-true}
-use Rattle.model.specs.Res.{Res, ok, refuse, _>>=_, each, Holds, such, none}
+use Rattle.model.specs.Res.{Res, ok, refuse, _>>=_, each}
 use Rattle.model.specs.Records.{Ptr, Cell, whole, cellWords, wholeCells}
 use Rattle.model.specs.Barrier.{Barrier, masks}
 use Rattle.model.specs.Heap.{Nursery, Elder, Sizes, Heap, part}
 use Rattle.model.specs.Image.{imageLength, encode, decode}
 use Rattle.model.specs.Collector.{collectAndAlloc}
 use Rattle.model.specs.Calls.{cellsIn, rootsGood, scratchLength, allocated}
+use Rattle.theorems.specs.Holds.{Holds, such, none}
 use Rattle.theorems.specs.Fit.{Fit, Image}
 use Rattle.theorems.specs.Does.{Meets, Does}
 use Rattle.theorems.specs.Apart.{swapBoth, swapRoots}

@@ -10,7 +10,7 @@ use lib.ListN.{length, getD, drop, set as put}
 use mir.Syntax.{w64}
 use mir.Val.{SFits}
 use borrow.Author.Tests.{le-leb}
-use Rattle.model.specs.Res.{Res, ok, refuse, _>>=_, each, Holds, such}
+use Rattle.model.specs.Res.{Res, ok, refuse, _>>=_, each}
 use Rattle.model.specs.Records.{Ptr, Cell, ref, blank, valid, allValid, cellWords, wholeCells, whole}
 use Rattle.model.specs.Heap.{Nursery, Elder, Sizes, Heap}
 use Rattle.model.specs.Image.{encode, decode}
@@ -19,7 +19,10 @@ use Rattle.model.specs.Nursery.{bump, survivors, collectYoung}
 use Rattle.model.specs.Elder.{placeNew, moveOne, movesOf}
 use Rattle.model.specs.Collector.{Allocation as ModelAllocation, fourCounts, swapAll, allocAgain, collectAndAlloc, alloc as allocIn}
 use Rattle.model.specs.Calls.{Outcome, cellsIn, rootsGood, scratchLength, allocOn, allocated}
-use Rattle.model.specs.Command.{alloc, spaced, signed, allocWord, step, stepped}
+use Rattle.model.specs.Command.{alloc}
+use Rattle.model.specs.Run.{step, stepped}
+use Rattle.model.specs.Listing.{spaced, signed, allocWord}
+use Rattle.theorems.specs.Holds.{Holds, such}
 use Rattle.theorems.proofs.Res.{bind, bind′, asked, holds-at}
 use Rattle.theorems.proofs.Contents.{all-valid, valid-all}
 use Rattle.theorems.proofs.Cells.{whole-words, words-in}

@@ -11,7 +11,8 @@ use Rattle.model.specs.Res.{ok, refuse}
 use Rattle.model.specs.Heap.{Sizes, inBounds, Heap}
 use Rattle.model.specs.Image.{imageLength, encode, decode}
 use Rattle.model.specs.Calls.{scratchLength}
-use Rattle.model.specs.Command.{Command, theHeap, noHeap, programBounds, step, stepped}
+use Rattle.model.specs.Command.{Command}
+use Rattle.model.specs.Run.{theHeap, noHeap, programBounds, step, stepped}
 use Rattle.theorems.specs.Fit.{Fit}
 use Rattle.theorems.proofs.Image.{decode-encode, encode-sized, encode-formed, image-of}
 use Rattle.theorems.proofs.Lists.{and-parts}

@@ -10,7 +10,8 @@ use Rattle.model.specs.Res.{ok}
 use Rattle.model.specs.Heap.{Sizes, inBounds, fresh}
 use Rattle.model.specs.Image.{imageLength, encode}
 use Rattle.model.specs.Calls.{Outcome, left, newCall}
-use Rattle.model.specs.Command.{Command, new, noHeap, programBounds, step, stepped}
+use Rattle.model.specs.Command.{Command, new}
+use Rattle.model.specs.Run.{noHeap, programBounds, step, stepped}
 use Rattle.theorems.specs.Fit.{Fit}
 use Rattle.theorems.proofs.Image.{encode-length, fresh-fit}
 use Rattle.theorems.proofs.Lists.{eqb-same}

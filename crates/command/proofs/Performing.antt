@@ -12,7 +12,8 @@ use denote.Enum.Declared.{tagOf}
 use borrow.Author.Tests.{leb-true}
 use Rattle.model.specs.Lists.{allAtMost}
 use Rattle.model.specs.Heap.{Sizes}
-use Rattle.model.specs.Command.{Command, new, step}
+use Rattle.model.specs.Command.{Command, new}
+use Rattle.model.specs.Run.{step}
 use Rattle.theorems.proofs.Lists.{and-parts}
 use Rattle.reader.specs.Answer.{modelCommand}
 use Rattle.reader.specs.declared.Command as command

@@ -9,7 +9,9 @@ use Rattle.model.specs.Heap.{Heap}
 use Rattle.model.specs.Image.{encode, decode}
 use Rattle.model.specs.Collector.{report as reportOf}
 use Rattle.model.specs.Calls.{Outcome, reported}
-use Rattle.model.specs.Command.{report, spaced, reportWord, step, stepped}
+use Rattle.model.specs.Command.{report}
+use Rattle.model.specs.Run.{step, stepped}
+use Rattle.model.specs.Listing.{spaced, reportWord}
 use Rattle.theorems.proofs.Res.{holds-at}
 use Rattle.theorems.proofs.Collect.{good-heap-fit}
 use Rattle.theorems.proofs.Calls.{Left, report-left}

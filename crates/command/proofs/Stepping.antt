@@ -15,7 +15,9 @@ use Rattle.model.specs.Image.{decode}
 use Rattle.model.specs.Collector.{read, write}
 use Rattle.model.specs.Calls.{writeOn, left}
 use Rattle.model.specs.Figure.{Figure as ModelFigure, figureOf, figure as figureIn}
-use Rattle.model.specs.Command.{set, load, store, figure, State as ModelState, register, theHeap, pointerIn, added, floatIn, cellText, figureText, loadWord, storeWord, figureWord, step}
+use Rattle.model.specs.Command.{set, load, store, figure}
+use Rattle.model.specs.Run.{State as ModelState, register, theHeap, pointerIn, added, floatIn, step}
+use Rattle.model.specs.Listing.{cellText, figureText, loadWord, storeWord, figureWord}
 use Rattle.theorems.proofs.Res.{holds-at}
 use Rattle.value.proofs.Value.{the-type}
 use Rattle.value.specs.declared.Pointer.{Pointer}

@@ -7,12 +7,13 @@ use Prim.Native.Nat.{ℕ, zero, suc, _<_}
 use lib.Dec.{ltb}
 use lib.ListN.{length, getD}
 use Rattle.model.specs.Lists.{flat}
-use Rattle.model.specs.Res.{Res, ok, refuse, _>>=_, Holds, such, none}
+use Rattle.model.specs.Res.{Res, ok, refuse, _>>=_}
 use Rattle.model.specs.Records.{Ptr, Cell, blank, cellWords, validPlain, valid, allValid, wholeCells}
 use Rattle.model.specs.Heap.{Heap}
 use Rattle.model.specs.Image.{encode, decode}
 use Rattle.model.specs.Collector.{youngAt, oldAt, read, write}
 use Rattle.model.specs.Calls.{Outcome, valueGood, writeOn, left}
+use Rattle.theorems.specs.Holds.{Holds, such, none}
 use Rattle.theorems.specs.Fit.{Fit}
 use Rattle.theorems.proofs.Res.{bind, bind′, asked, holds-at}
 use Rattle.theorems.proofs.Lists.{and-left, and-right, flat-in}

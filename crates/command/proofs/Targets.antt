@@ -14,7 +14,7 @@ use types.Run.{OneOf, miss}
 use denote.Enum.Declared.{tagOf}
 use borrow.Author.Tests.{lt-ltb, le-ltb, le-leb, lt-leb, ltb-true, ltb-false}
 use Rattle.model.specs.Records.{blank, biased, sumFits}
-use Rattle.model.specs.Command.{pointerIn, added}
+use Rattle.model.specs.Run.{pointerIn, added}
 use Rattle.value.proofs.Value.{the-type}
 use Rattle.value.specs.declared.Pointer.{Pointer}
 use Rattle.value.specs.declared.Value.{Value}

@@ -7,7 +7,7 @@ use Prim.Native.Nat.{ℕ, _≤_, _<_}
 use lib.ListN.{length, take}
 use Rattle.model.specs.Heap.{Heap}
 use Rattle.model.specs.Image.{decode}
-use Rattle.model.specs.Command.{State as ModelState, programBounds}
+use Rattle.model.specs.Run.{State as ModelState, programBounds}
 use Rattle.theorems.specs.Fit.{Image}
 use Rattle.registers.specs.declared.Registers.{Registers}
 use Rattle.registers.specs.Cells.{cellsOfRegisters, Good}

@@ -5,7 +5,8 @@ use mathlib.Core.List.{List}
 use Prim.Native.Nat.{ℕ}
 use Rattle.model.specs.Res.{Res, ok, refuse, _>>=_}
 use Rattle.model.specs.Records.{Ptr, Cell}
-use Rattle.model.specs.Command.{Command, new, alloc, set, load, store, report, figure, pointerIn, added, step, stepped}
+use Rattle.model.specs.Command.{Command, new, alloc, set, load, store, report, figure}
+use Rattle.model.specs.Run.{pointerIn, added, step, stepped}
 use Rattle.access.specs.Access.{pointerOf}
 use Rattle.registers.specs.declared.Registers.{Registers}
 use Rattle.registers.specs.Cells.{Good}

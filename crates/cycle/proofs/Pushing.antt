@@ -8,12 +8,13 @@ use native.Mathlib.Numerals.{add-one}
 use native.Mathlib.Omega.{arith}
 use lib.ListN.{length, getD, set, drop, length-set}
 use lib.Seq.{getD-drop, getD-set-same, getD-set-other, take-set-le}
-use Rattle.model.specs.Res.{Res, ok, refuse, _>>=_, each, Holds}
+use Rattle.model.specs.Res.{Res, ok, refuse, _>>=_, each}
 use Rattle.model.specs.Records.{Ptr, Cell, whole}
 use Rattle.model.specs.Barrier.{masks}
 use Rattle.model.specs.Heap.{Sizes, Heap}
 use Rattle.model.specs.Image.{imageLength, sizesOf, decode}
 use Rattle.model.specs.Calls.{cellsIn, scratchLength}
+use Rattle.theorems.specs.Holds.{Holds}
 use Rattle.theorems.specs.Fit.{Image}
 use Rattle.theorems.specs.Does.{Does}
 use Rattle.theorems.proofs.Does.{answered, does-then, does-refused, does-same}

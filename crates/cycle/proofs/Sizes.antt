@@ -5,11 +5,12 @@ use mathlib.Core.List.{List, [], _∷_, _++_}
 use Prim.Native.Nat.{ℕ, _+_, _*_, _≤_}
 use native.Mathlib.Omega.{arith}
 use lib.ListN.{length, length-append}
-use Rattle.model.specs.Res.{Res, ok, refuse, _>>=_, each, Holds, such, none as refused}
+use Rattle.model.specs.Res.{Res, ok, refuse, _>>=_, each}
 use Rattle.model.specs.Records.{Ptr, Cell}
 use Rattle.model.specs.Barrier.{masks}
 use Rattle.model.specs.Heap.{Elder, Heap}
 use Rattle.model.specs.Elder.{collectOld, place, placeNew}
+use Rattle.theorems.specs.Holds.{Holds, such, none as refused}
 use Rattle.theorems.specs.Fit.{Fit}
 use Rattle.theorems.specs.Does.{withOld, withYoung}
 use Rattle.theorems.proofs.Res.{bind, each-holds, weaken}

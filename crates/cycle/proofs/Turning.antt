@@ -10,13 +10,14 @@ use lib.Dec.{ltb, leb, eqb}
 use lib.ListN.{length, getD}
 use borrow.Author.Tests.{ltb-true, eqb-true}
 use Rattle.model.specs.Lists.{consIf, keepIf}
-use Rattle.model.specs.Res.{Res, ok, refuse, _>>=_, ask, Holds, such, none}
+use Rattle.model.specs.Res.{Res, ok, refuse, _>>=_, ask}
 use Rattle.model.specs.Records.{Ptr, Cell, whole, inHeap}
 use Rattle.model.specs.Barrier.{most}
 use Rattle.model.specs.Heap.{Nursery, Elder, Sizes, Heap}
 use Rattle.model.specs.Image.{decode}
 use Rattle.model.specs.Nursery.{youngMembers, survivors, allAllocated, emptied, collectYoung, before, insert, sort}
 use Rattle.model.specs.Elder.{collectOld, oldMembers, sweep, place, placeNew}
+use Rattle.theorems.specs.Holds.{Holds, such, none}
 use Rattle.theorems.specs.Fit.{Fit, FitNursery, Image}
 use Rattle.theorems.specs.Does.{withOld, withYoung}
 use Rattle.theorems.proofs.Lists.{and-left, and-right, keepIf-out}

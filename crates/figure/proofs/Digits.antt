@@ -7,7 +7,7 @@ use native.Mathlib.Nat.{pow-suc}
 use native.Mathlib.Omega.{arith}
 use lib.ListN.{length, set, length-append, length-set}
 use borrow.Author.Tests.{eq-eqb, ne-eqb}
-use Rattle.model.specs.Command.{digits, decimal}
+use Rattle.model.specs.Listing.{digits, decimal}
 use Rattle.figure.specs.Written.{written, Wrote}
 use Rattle.figure.proofs.Writes.{wrote-none, written-back}
 

@@ -10,7 +10,7 @@ use lib.Signed.{mag, ltZ, nonNeg}
 use mir.Syntax.{w64}
 use mir.Val.{Fits, SFits, ofZ}
 use borrow.Author.Tests.{lt-ltb, le-ltb, ltb-true}
-use Rattle.model.specs.Command.{decimal, signed}
+use Rattle.model.specs.Listing.{decimal, signed}
 
 minus-one : (n : ℕ) → negsuc 0 -ℤ negsuc n ≡ pos n
 minus-one n = rw (le-ltb (suc n) 1 (omega arith)) (ap pos (omega arith))

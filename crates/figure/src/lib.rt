@@ -4,7 +4,7 @@ ghost use mathlib.Core.List.{[], _∷_};
 ghost use Prim.Native.Nat.{_+_, _*_, _/_, _%_, _^_, _<_, _≤_};
 ghost use lib.ListN.{length};
 ghost use Rattle.model.specs.Figure.{rounded, figureOf, figure};
-ghost use Rattle.model.specs.Command.{figureText};
+ghost use Rattle.model.specs.Listing.{figureText};
 ghost use Rattle.figure.specs.Answer.{modelFigure, figuredAnswer, limited};
 ghost use Rattle.figure.specs.Written.{Wrote};
 

@@ -7,7 +7,7 @@ ghost use lib.IntN.{natAbs};
 ghost use lib.ListN.{length};
 ghost use mir.Syntax.{w64};
 ghost use mir.Val.{ofZ};
-ghost use Rattle.model.specs.Command.{decimal as decimalText, spaced as spacedText, signed as signedText};
+ghost use Rattle.model.specs.Listing.{decimal as decimalText, spaced as spacedText, signed as signedText};
 ghost use Rattle.figure.specs.Written.{Wrote};
 
 pub fn byte(b: u8, out: &mut [u8], at: usize) -> usize

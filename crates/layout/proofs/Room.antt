@@ -9,11 +9,12 @@ use lib.Dec.{ltb, leb}
 use lib.ListN.{length, getD, set, take, drop, length-map}
 use borrow.Author.Tests.{lt-ltb, le-ltb, le-leb, lt-leb}
 use Rattle.model.specs.Lists.{flat, places, sum}
-use Rattle.model.specs.Res.{ok, _>>=_, ask, such}
+use Rattle.model.specs.Res.{ok, _>>=_, ask}
 use Rattle.model.specs.Records.{Cell}
 use Rattle.model.specs.Heap.{Heap, held, inUse}
 use Rattle.model.specs.Image.{decode}
 use Rattle.model.specs.Elder.{newBase, room}
+use Rattle.theorems.specs.Holds.{such}
 use Rattle.theorems.specs.Fit.{Image}
 use Rattle.theorems.proofs.Elder.{Room, room-is}
 use Rattle.theorems.proofs.Kept.{fit-good}

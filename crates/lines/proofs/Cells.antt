@@ -5,7 +5,7 @@ use Prim.Native.Nat.{ℕ}
 use types.Run.{OneOf, miss}
 use denote.Enum.Declared.{tagOf}
 use Rattle.model.specs.Records.{blank, cellWords}
-use Rattle.model.specs.Command.{spaced, cellText}
+use Rattle.model.specs.Listing.{spaced, cellText}
 use Rattle.theorems.proofs.Cells.{kindWord, payloadWord}
 use Rattle.value.proofs.Value.{the-type}
 use Rattle.value.proofs.RoundTrip.{three-words}

@@ -8,7 +8,7 @@ use lib.ListN.{length, length-append}
 use mir.Syntax.{w64}
 use mir.Val.{ofZ}
 use Rattle.model.specs.Records.{Cell, plain, ref}
-use Rattle.model.specs.Command.{decimal, signed, figureText, cellText, newWord, allocWord, setWord, loadWord, storeWord, reportWord, figureWord, noWord, refusal}
+use Rattle.model.specs.Listing.{decimal, signed, figureText, cellText, newWord, allocWord, setWord, loadWord, storeWord, reportWord, figureWord, noWord, refusal}
 use Rattle.value.specs.Value.{valueCell}
 use Rattle.figure.proofs.Digits.{decimal-length}
 use Rattle.figure.proofs.Writes.{sign-length}

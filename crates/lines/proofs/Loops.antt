@@ -6,7 +6,7 @@ use native.Mathlib.Numerals.{add-one}
 use native.Mathlib.Omega.{arith}
 use lib.ListN.{length, getD, set, take, length-append, length-set}
 use lib.Seq.{take-all, take-suc}
-use Rattle.model.specs.Command.{decimal, spaced}
+use Rattle.model.specs.Listing.{decimal, spaced}
 use Rattle.figure.specs.Written.{Wrote}
 use Rattle.figure.proofs.Digits.{decimal-length}
 use Rattle.figure.proofs.Writes.{wrote-none, wrote-byte, wrote-both}

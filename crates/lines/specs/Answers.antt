@@ -3,7 +3,7 @@ use mathlib.Core.List.{List, [], _∷_, _++_}
 use Prim.Native.Nat.{ℕ}
 use mir.Syntax.{w64}
 use mir.Val.{ofZ}
-use Rattle.model.specs.Command.{spaced, signed, figureText, cellText, newWord, allocWord, setWord, loadWord, storeWord, reportWord, figureWord, refusal}
+use Rattle.model.specs.Listing.{spaced, signed, figureText, cellText, newWord, allocWord, setWord, loadWord, storeWord, reportWord, figureWord, refusal}
 use Rattle.value.specs.declared.Value.{Value}
 use Rattle.value.specs.Value.{valueCell}
 use Rattle.figure.specs.declared.Figure.{Figure}

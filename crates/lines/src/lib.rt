@@ -7,7 +7,7 @@ use value::Value;
 ghost use mathlib.Core.Path.{_≡_};
 ghost use Prim.Native.Nat.{_+_, _*_, _≤_};
 ghost use lib.ListN.{length};
-ghost use Rattle.model.specs.Command.{spaced, cellText, refusal, line};
+ghost use Rattle.model.specs.Listing.{spaced, cellText, refusal, line};
 ghost use Rattle.value.specs.Value.{valueCell};
 ghost use Rattle.figure.specs.Written.{Wrote};
 ghost use Rattle.lines.specs.Answers.{allocText, loadText, reportText, figureLine, answerText};

@@ -11,7 +11,9 @@ use types.Run.{OneOf, miss}
 use denote.Enum.Declared.{tagOf}
 use Rattle.model.specs.Lists.{flat}
 use Rattle.model.specs.Res.{ok}
-use Rattle.model.specs.Command.{Command, State as ModelState, refusal, step, stepped, line, linesFrom}
+use Rattle.model.specs.Command.{Command}
+use Rattle.model.specs.Run.{State as ModelState, step, stepped}
+use Rattle.model.specs.Listing.{refusal, line, linesFrom}
 use Rattle.figure.specs.Written.{Wrote}
 use Rattle.reader.proofs.Next.{the-type}
 use Rattle.reader.specs.declared.Next.{Next}

@@ -3,7 +3,7 @@ use mathlib.Core.Path.{_≡_, sym, ap, _∙_}
 use mathlib.Core.List.{List, [], _++_, append-nil, append-assoc}
 use Prim.Native.Nat.{ℕ}
 use lib.ListN.{length, take}
-use Rattle.model.specs.Command.{listing}
+use Rattle.model.specs.Listing.{listing}
 use Rattle.command.specs.State.{stateIn}
 use Rattle.listing.specs.declared.Run.{Run}
 use Rattle.listing.specs.Left.{leftOf, Printed, nothing, more}

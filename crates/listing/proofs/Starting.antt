@@ -10,7 +10,9 @@ use lib.ListN.{length, replicate}
 use borrow.Author.Tests.{leb-false}
 use Rattle.model.specs.Lists.{flat}
 use Rattle.model.specs.Records.{blank}
-use Rattle.model.specs.Command.{State, started, parseAll, refusal, line, linesFrom, lines, listing}
+use Rattle.model.specs.Command.{parseAll}
+use Rattle.model.specs.Run.{State, started}
+use Rattle.model.specs.Listing.{refusal, line, linesFrom, lines, listing}
 use Rattle.registers.specs.declared.Registers.{Registers}
 use Rattle.registers.specs.Cells.{cellsOfRegisters, Good}
 use Rattle.command.specs.State.{heapIn, stateOf, Held, heapless}

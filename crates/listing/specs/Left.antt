@@ -8,7 +8,9 @@ use lib.Dec.{leb}
 use lib.ListN.{length, take, drop}
 use Rattle.model.specs.Lists.{flat}
 use Rattle.model.specs.Res.{Res, ok, refuse}
-use Rattle.model.specs.Command.{Command, State, parseAll, linesFrom, listing}
+use Rattle.model.specs.Command.{Command, parseAll}
+use Rattle.model.specs.Run.{State}
+use Rattle.model.specs.Listing.{linesFrom, listing}
 use Rattle.figure.specs.Written.{Wrote}
 use Rattle.reader.specs.Answer.{nextAt}
 use Rattle.command.specs.State.{stateIn, Ready}

@@ -7,7 +7,7 @@ ghost use mathlib.Core.Path.{_≡_};
 ghost use mathlib.Core.List.{List};
 ghost use Prim.Native.Nat.{ℕ, _+_, _<_, _≤_};
 ghost use lib.ListN.{length};
-ghost use Rattle.model.specs.Command.{listing};
+ghost use Rattle.model.specs.Listing.{listing};
 ghost use Rattle.reader.specs.Answer.{nextAnswer};
 ghost use Rattle.listing.specs.Left.{standsAt, leftOf, Going, Advances, Fills};
 

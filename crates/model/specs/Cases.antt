@@ -22,7 +22,9 @@ use Rattle.model.specs.Elder.{oldStart, oldStep, oldMembers, keeps, keep
 use Rattle.model.specs.Collector.{movedTo, holds, swapCell, countSwap, swapYoung, swapOld, swapAll, fourCounts, allocAgain, collectAndAlloc, alloc, youngAt, oldAt, read, outYoung, writeYoung, writeOld, inYoung, inOld, write, statistics, report}
 use Rattle.model.specs.Calls.{cellsIn, rootsGood, valueGood, scratchLength, opened, allocOn, readOn, writeOn, Outcome, allocated, left, reported, Call, allocs, reads, writes, call, reportCall, newCall}
 use Rattle.model.specs.Figure.{Figure, rounded, figureOf, figure}
-use Rattle.model.specs.Command.{opcodes, operandBytes, littleEndian, field, commandOf, registersOf, parse, parseUpTo, parseAll, digits, decimal, signed, spaced, figureText, cellText, newWord, allocWord, setWord, loadWord, storeWord, reportWord, figureWord, noWord, refusal, started, register, programBounds, theHeap, noHeap, pointerIn, added, floatIn, step, stepped, line, linesFrom, lines, listing}
+use Rattle.model.specs.Command.{opcodes, operandBytes, littleEndian, field, commandOf, registersOf, parse, parseUpTo, parseAll}
+use Rattle.model.specs.Run.{started, holding, register, programBounds, theHeap, noHeap, pointerIn, added, floatIn, step, stepped}
+use Rattle.model.specs.Listing.{digits, decimal, signed, spaced, figureText, cellText, newWord, allocWord, setWord, loadWord, storeWord, reportWord, figureWord, noWord, lineText, line, linesFrom, longestFile, lines, listing}
 
 -- Images, written out
 
@@ -1248,6 +1250,6 @@ unfolding changed padded flagWord countWords picture sizes usual unused clean in
     newCall
     rounded figureOf figure
     opcodes operandBytes littleEndian field commandOf registersOf parse parseUpTo parseAll digits decimal signed spaced
-    figureText cellText newWord allocWord setWord loadWord storeWord reportWord figureWord noWord refusal started register
-    programBounds theHeap noHeap pointerIn added floatIn step stepped line linesFrom lines listing
+    figureText cellText newWord allocWord setWord loadWord storeWord reportWord figureWord noWord lineText started holding
+    register programBounds theHeap noHeap pointerIn added floatIn step stepped line linesFrom longestFile lines listing
 all-rows = refl

@@ -12,5 +12,7 @@ pub mod Collector
 pub mod Calls
 pub mod Figure
 pub mod Command
+pub mod Run
+pub mod Listing
 pub mod Demand
 pub mod Cases

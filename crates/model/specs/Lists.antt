@@ -2,7 +2,7 @@
 use mathlib.Core.Bool.{Bool, true, false, _&&_}
 use mathlib.Core.List.{List, [], _∷_, _++_}
 use Prim.Native.Nat.{ℕ, suc, _+_}
-use lib.Dec.{ltb, leb, eqb}
+use lib.Dec.{ltb, leb}
 
 module _ {A : Type 0} where
   abbrev pub consIf : Bool → A → List A → List A
@@ -35,9 +35,3 @@ sum (x ∷ xs) = x + sum xs
 unfoldable pub allAtMost : ℕ → List ℕ → Bool
 allAtMost m [] = true
 allAtMost m (x ∷ xs) = leb x m && allAtMost m xs
-
-unfoldable pub sameList : List ℕ → List ℕ → Bool
-sameList [] [] = true
-sameList [] (y ∷ ys) = false
-sameList (x ∷ xs) [] = false
-sameList (x ∷ xs) (y ∷ ys) = eqb x y && sameList xs ys

@@ -21,8 +21,3 @@ ask q false = refuse q
 abbrev pub each : {A B : Type 0} → (A → B → Res B) → List A → B → Res B
 each f [] b = ok b
 each f (a ∷ rest) b = f a b >>= each f rest
-
--- if there is an answer, it is such
-pub data Holds {A : Type 0} (P : A → Type 0) : Res A → Type 0 where
-  such : {a : A} → P a → Holds P (ok a)
-  none : {q : ℕ} → Holds P (refuse q)

@@ -6,12 +6,13 @@ use native.Mathlib.Nat.{sub-zero}
 use native.Mathlib.Omega.{arith}
 use lib.ListN.{length, take}
 use Rattle.model.specs.Lists.{keepIf, flat}
-use Rattle.model.specs.Res.{Res, ok, refuse, _>>=_, each, Holds, such}
+use Rattle.model.specs.Res.{Res, ok, refuse, _>>=_, each}
 use Rattle.model.specs.Records.{Ptr, ref}
 use Rattle.model.specs.Barrier.{Barrier}
 use Rattle.model.specs.Heap.{Nursery, Elder, Heap}
 use Rattle.model.specs.Image.{decode}
 use Rattle.model.specs.Collector.{movedTo, holds, swapCell, swapYoung, swapOld}
+use Rattle.theorems.specs.Holds.{Holds, such}
 use Rattle.theorems.specs.Fit.{FitBarrier, Image}
 use Rattle.theorems.specs.Does.{Meets, Does, withYoung, withOld}
 use Rattle.theorems.specs.Apart.{swapBoth}

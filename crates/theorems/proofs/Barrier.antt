@@ -9,9 +9,10 @@ use lib.Dec.{eqb, ltb, leb}
 use lib.ListN.{length, getD, set, length-set, replicate, length-replicate}
 use lib.Seq.{getD-set-same, getD-set-other}
 use Rattle.model.specs.Lists.{allAtMost}
-use Rattle.model.specs.Res.{ok, _>>=_, each, Holds, such}
+use Rattle.model.specs.Res.{ok, _>>=_, each}
 use Rattle.model.specs.Records.{Ptr, Cell, plain, ref}
 use Rattle.model.specs.Barrier.{Barrier, absent, present, cache, most, counts, count, up, down, countIn, countOut}
+use Rattle.theorems.specs.Holds.{Holds, such}
 use Rattle.theorems.specs.Fit.{FitBarrier}
 use borrow.Author.Tests.{eqb-true, ltb-true, le-leb, leb-true}
 use Rattle.theorems.proofs.Lists.{and-left, and-right, eqb-same}

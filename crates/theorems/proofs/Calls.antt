@@ -6,7 +6,7 @@ use mathlib.Core.List.{List, []}
 use Prim.Native.Nat.{ℕ, zero, suc, _-_, _≤_, _<_}
 use lib.Dec.{ltb}
 use lib.ListN.{length, getD, set, length-set}
-use Rattle.model.specs.Res.{ok, refuse, Holds, such, none}
+use Rattle.model.specs.Res.{ok, refuse}
 use Rattle.model.specs.Records.{Ptr, Cell, blank, valid, whole}
 use Rattle.model.specs.Barrier.{most, countOut}
 use Rattle.model.specs.Heap.{Nursery, Elder, Sizes, Heap}
@@ -14,6 +14,7 @@ use Rattle.model.specs.Nursery.{bump}
 use Rattle.model.specs.Elder.{oldMembers, collectOld}
 use Rattle.model.specs.Collector.{Allocation, collectAndAlloc, alloc, youngAt, oldAt, outYoung, writeYoung, writeOld, inYoung, inOld, write, report}
 use Rattle.model.specs.Demand.{Collected}
+use Rattle.theorems.specs.Holds.{Holds, such, none}
 use Rattle.theorems.specs.Fit.{FitBarrier, FitNursery}
 use Rattle.theorems.proofs.Res.{bind, bind′, asked, weaken}
 use borrow.Author.Tests.{ltb-true, ltb-false}

@@ -7,12 +7,13 @@ use Prim.Native.Nat.{ℕ}
 use native.Mathlib.Omega.{arith}
 use lib.ListN.{length, take, drop, length-map, length-append, take-append-drop}
 use lib.Seq.{take-at, drop-at, length-take-le}
-use Rattle.model.specs.Res.{ok, _>>=_, each, Holds, such}
+use Rattle.model.specs.Res.{ok, _>>=_, each}
 use Rattle.model.specs.Records.{Ptr, Cell, plain, ref, whole}
 use Rattle.model.specs.Barrier.{Barrier, countIn, countOut}
 use Rattle.model.specs.Heap.{Nursery, Elder, Sizes}
 use Rattle.model.specs.Collector.{movedTo, holds, swapCell, countSwap, swapYoung, swapOld, swapAll}
 use Rattle.model.specs.Demand.{Changed, AllChanged}
+use Rattle.theorems.specs.Holds.{Holds, such}
 use Rattle.theorems.specs.Fit.{FitBarrier, FitNursery}
 use Rattle.theorems.proofs.Res.{bind, bind′, both, weaken, each-holds}
 use Rattle.theorems.proofs.Lists.{take-in, drop-in}

@@ -10,7 +10,7 @@ use lib.Dec.{ltb, leb}
 use lib.ListN.{length, getD, take, drop, replicate, length-replicate, length-set, length-map, List·getD-map}
 use Rattle.model.specs.Lists.{keepIf, flat}
 use Rattle.model.specs.Reach.{Least, begin, next, Exact}
-use Rattle.model.specs.Res.{ok, _>>=_, each, Holds, such}
+use Rattle.model.specs.Res.{ok, _>>=_, each}
 use Rattle.model.specs.Records.{Ptr, Cell, ref, blank, whole, inHeap}
 use Rattle.model.specs.Barrier.{most, masks}
 use Rattle.model.specs.Heap.{Nursery, Elder, Sizes, inBounds, Heap, part, held}
@@ -19,6 +19,7 @@ use Rattle.model.specs.Nursery.{bump, youngMembers, survivors, allAllocated, em
 use Rattle.model.specs.Elder.{placeNew, Moving, moveOne, movesOf}
 use Rattle.model.specs.Collector.{Allocation, allocAgain, collectAndAlloc}
 use Rattle.model.specs.Demand.{YoungStart, YoungLeads, Given, AllChanged, sources, Collected}
+use Rattle.theorems.specs.Holds.{Holds, such}
 use Rattle.theorems.specs.Fit.{FitNursery, Fit}
 use borrow.Author.Tests.{eqb-true, ltb-true, ltb-false, leb-true}
 use Rattle.theorems.proofs.Lists.{eqb-same, keepIf-in, keepIf-out}

@@ -8,7 +8,7 @@ use native.Mathlib.Omega.{arith}
 use lib.Dec.{eqb}
 use lib.ListN.{length}
 use Rattle.model.specs.Lists.{consIf, keepIf, flat, sum}
-use Rattle.model.specs.Res.{Res, ok, refuse, _>>=_, Holds, such, none}
+use Rattle.model.specs.Res.{Res, ok, refuse, _>>=_}
 use Rattle.model.specs.Records.{whole, cellWords, Cell, plain, ref, wholeCells}
 use Rattle.model.specs.Barrier.{cache}
 use Rattle.model.specs.Heap.{Elder, Sizes, Heap, inBounds, fresh}
@@ -18,6 +18,7 @@ use Rattle.model.specs.Elder.{sweepsOf}
 use Rattle.model.specs.Collector.{Allocation, fourCounts}
 use Rattle.model.specs.Calls.{cellsIn, opened, allocOn, Outcome, allocated, left, Call, allocs, reads, writes, call}
 use Rattle.model.specs.Demand.{Collected, CollectedCall, StayedCall, Claim, History, nothing, next, pointsAt, Counted, AllClaims, Demand, Demand3}
+use Rattle.theorems.specs.Holds.{Holds, such, none}
 use Rattle.theorems.specs.Kept.{events, run}
 use Rattle.theorems.proofs.Res.{holds-at}
 use Rattle.theorems.proofs.Lists.{flat-empty}

@@ -8,12 +8,13 @@ use native.Mathlib.Omega.{arith}
 use lib.Dec.{ltb, leb}
 use lib.ListN.{length, getD, set, length-set, length-append, length-map, replicate, length-replicate}
 use Rattle.model.specs.Lists.{onlyIf, flat}
-use Rattle.model.specs.Res.{ok, _>>=_, each, Holds, such}
+use Rattle.model.specs.Res.{ok, _>>=_, each}
 use Rattle.model.specs.Records.{Ptr, Cell, ref, blank, valid}
 use Rattle.model.specs.Barrier.{Barrier, most, countIn, countOut}
 use Rattle.model.specs.Heap.{Elder, Sizes, held, inUse}
 use Rattle.model.specs.Elder.{keeps, keep, countDropped, sweep, newBase, room, put, place, placeNew}
 use Rattle.model.specs.Collector.{movedTo, holds, swapCell, countSwap, swapOld, writeOld}
+use Rattle.theorems.specs.Holds.{Holds, such}
 use Rattle.theorems.specs.Fit.{FitElder}
 use mathlib.Core.Logic.{⊎-elim}
 use borrow.Author.Tests.{ltb-true, leb-true}

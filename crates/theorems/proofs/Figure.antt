@@ -10,8 +10,9 @@ use lib.Ieee.{Float, nan, inf, fin, up, down}
 use lib.Ieee.Exact.{HasValue}
 use lib.Ieee.Fits.{down-pos}
 use borrow.Author.Tests.{leb-true, leb-false, lt-leb, lt-ltb}
-use Rattle.model.specs.Res.{ok, refuse, _>>=_, ask, Holds, such, none}
+use Rattle.model.specs.Res.{ok, refuse, _>>=_, ask}
 use Rattle.model.specs.Figure.{Figure, rounded, figureOf}
+use Rattle.theorems.specs.Holds.{Holds, such, none}
 use Rattle.theorems.specs.Rounding.{Rounds, FigureOf, NoFigure, not-a-number, infinite, beyond}
 use Rattle.theorems.proofs.Res.{asked}
 

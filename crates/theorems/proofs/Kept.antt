@@ -6,12 +6,13 @@ use Prim.Native.Nat.{ℕ, _*_, _/_}
 use native.Mathlib.Omega.{arith}
 use lib.Dec.{leb, eqb}
 use lib.ListN.{length, getD}
-use Rattle.model.specs.Res.{Res, ok, refuse, _>>=_, Holds, such, none}
+use Rattle.model.specs.Res.{Res, ok, refuse, _>>=_}
 use Rattle.model.specs.Records.{Ptr, cellOf, valid, spareZero, validWords, wholeCells}
 use Rattle.model.specs.Heap.{Sizes, Heap, inBounds, fresh}
 use Rattle.model.specs.Image.{sizesOf, encode, decode, sized, formed}
 use Rattle.model.specs.Collector.{Allocation, report}
 use Rattle.model.specs.Calls.{cellsIn, rootsGood, valueGood, scratchLength, opened, allocOn, readOn, writeOn, allocated, left, reported, Call, allocs, reads, writes, call, reportCall}
+use Rattle.theorems.specs.Holds.{Holds, such, none}
 use Rattle.theorems.specs.Fit.{Fit}
 use Rattle.theorems.specs.Kept.{Kept, rootsOf}
 use Rattle.theorems.proofs.Res.{bind, asked, weaken, holds-at}

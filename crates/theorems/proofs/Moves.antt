@@ -11,12 +11,13 @@ use lib.ListN.{length, getD, set, drop, length-append, length-take, length-drop}
 use lib.Seq.{getD-set-same, getD-set-other, getD-take, getD-drop}
 use Rattle.model.specs.Lists.{onlyIf, flat}
 use Rattle.model.specs.Reach.{Exact, mem}
-use Rattle.model.specs.Res.{ok, _>>=_, each, Holds, such}
+use Rattle.model.specs.Res.{ok, _>>=_, each}
 use Rattle.model.specs.Records.{Ptr, Cell, blank, whole, samePtr}
 use Rattle.model.specs.Barrier.{most, countIn, masks}
 use Rattle.model.specs.Heap.{Elder, Heap, part, held, inUse}
 use Rattle.model.specs.Elder.{oldMembers, keeps, keep, countDropped, sweep, collectOld, newBase, put, place, Step, move, sweeping, Moving, collectIfFull, moveOne, movesOf, sweepsOf}
 use Rattle.model.specs.Demand.{OldStart, OldLeads, Copied, Swept, Chain, sources}
+use Rattle.theorems.specs.Holds.{Holds, such}
 use Rattle.theorems.specs.Fit.{FitNursery, FitElder}
 use Rattle.theorems.proofs.Reach.{mem-true, mem-has}
 use borrow.Author.Tests.{ltb-true, leb-true, leb-false}

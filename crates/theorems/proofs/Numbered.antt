@@ -18,7 +18,8 @@ use Rattle.model.specs.Collector.{movedTo, holds, countSwap, swapYoung, swapOld
 use Rattle.model.specs.Image.{sized, formed}
 use Rattle.model.specs.Calls.{rootsGood, valueGood, scratchLength, opened, allocOn, readOn, writeOn, allocated, left, reported, Call, allocs, reads, writes, call, reportCall}
 use Rattle.model.specs.Figure.{rounded, figureOf, figure}
-use Rattle.model.specs.Command.{Command, State, programBounds, theHeap, noHeap, pointerIn, added, floatIn, step}
+use Rattle.model.specs.Command.{Command}
+use Rattle.model.specs.Run.{State, programBounds, theHeap, noHeap, pointerIn, added, floatIn, step}
 use Rattle.theorems.specs.Numbered.{Numbered, answered, numbered}
 
 -- through the steps that lead to an answer

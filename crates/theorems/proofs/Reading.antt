@@ -11,9 +11,11 @@ use lib.ListN.{length, take, length-append, take-append-drop}
 use borrow.Author.Tests.{le-leb, lt-leb}
 use Rattle.model.specs.Lists.{flat, allAtMost}
 use Rattle.model.specs.Res.{Res, ok, refuse, _>>=_, ask}
-use Rattle.model.specs.Command.{Command, opcodes, operandBytes, commandOf, registersOf, parse, parseUpTo, parseAll, digits, decimal, spaced, noWord, refusal, State, started, step, stepped, line, linesFrom, lines, listing}
+use Rattle.model.specs.Command.{Command, opcodes, operandBytes, commandOf, registersOf, parse, parseUpTo, parseAll}
+use Rattle.model.specs.Run.{State, started, noLine, step, stepped}
+use Rattle.model.specs.Listing.{digits, decimal, spaced, noWord, lineText, line, linesFrom, longestFile, lines, listing}
 use Rattle.theorems.specs.Reading.{Parsed, end, malformed, command, IsLine, lastLine, ReadThrough}
-use Rattle.theorems.proofs.Texts.{refusal-text, stepped-text, line-is}
+use Rattle.theorems.proofs.Texts.{line-is}
 
 -- What a parse comes to: a command with registers below 16 and the bytes after it, or question 12
 
@@ -140,14 +142,14 @@ last-line n s (c ∷ cs) left = rw (last-line (suc n) (stepped s (step c s) .1) 
 lined : (n : ℕ) (s : State) (cs : List Command) (left : List ℕ) (l : List ℕ) → List·Memᴰ l (linesFrom n s cs left) → IsLine l
 unfolding linesFrom
 lined n s [] [] l m = absurd (List·Memᴰ·not-nil m)
-lined n s [] (b ∷ w) l m = rw (List·Memᴰ·eq-of-singleton m) (line-is n (refusal 12) (refusal-text 12))
-lined n s (c ∷ cs) left l m = ⊎-elim (λ e. rw e (line-is n (stepped s (step c s) .0) (stepped-text c s))) (lined (suc n) (stepped s (step c s) .1) cs left l) (List·Memᴰ·cases-cons m)
+lined n s [] (b ∷ w) l m = rw (List·Memᴰ·eq-of-singleton m) (line-is n (noLine 12))
+lined n s (c ∷ cs) left l m = ⊎-elim (λ e. rw e (line-is n (stepped s (step c s) .0))) (lined (suc n) (stepped s (step c s) .1) cs left l) (List·Memᴰ·cases-cons m)
 
-within : (file : List ℕ) → length file ≤ 65536 → lines file ≡ linesFrom 1 started (parseAll file .0) (parseAll file .1)
+within : (file : List ℕ) → length file ≤ longestFile → lines file ≡ linesFrom 1 started (parseAll file .0) (parseAll file .1)
 unfolding lines
-within file h = rw (le-leb (length file) 65536 h, lines)
+within file h = rw (le-leb (length file) longestFile h, lines)
 
-pub reads-through : (file : List ℕ) → length file ≤ 65536 → ReadThrough file
+pub reads-through : (file : List ℕ) → length file ≤ longestFile → ReadThrough file
 unfolding listing parseAll
 reads-through file h = record {
   commands = cs;
@@ -167,10 +169,10 @@ reads-through file h = record {
     left = parseAll file .1
 
 -- `1 no 12` and LF
-pub too-long : (file : List ℕ) → 65536 < length file → listing file ≡ 0x31 ∷ 0x20 ∷ 0x6E ∷ 0x6F ∷ 0x20 ∷ 0x31 ∷ 0x32 ∷ 0x0A ∷ []
-unfolding listing lines flat line decimal digits refusal noWord spaced
-too-long file h = rw (lt-leb (length file) 65536 h, lines)
+pub too-long : (file : List ℕ) → longestFile < length file → listing file ≡ 0x31 ∷ 0x20 ∷ 0x6E ∷ 0x6F ∷ 0x20 ∷ 0x31 ∷ 0x32 ∷ 0x0A ∷ []
+unfolding listing lines flat line lineText decimal digits noWord spaced
+too-long file h = rw (lt-leb (length file) longestFile h, lines)
 
 pub empty : listing [] ≡ []
-unfolding listing lines flat parseAll parseUpTo linesFrom
+unfolding listing lines longestFile flat parseAll parseUpTo linesFrom
 empty = refl

@@ -3,7 +3,8 @@ use mathlib.Core.Path.{_≡_, refl}
 use mathlib.Core.Bool.{Bool, true, false}
 use mathlib.Core.List.{List, [], _∷_}
 use Prim.Native.Nat.{ℕ}
-use Rattle.model.specs.Res.{Res, ok, refuse, _>>=_, ask, each, Holds, such, none}
+use Rattle.model.specs.Res.{Res, ok, refuse, _>>=_, ask, each}
+use Rattle.theorems.specs.Holds.{Holds, such, none}
 
 module _ {A B : Type 0} where
   pub bind : {P : A → Type 0} {Q : B → Type 0} {m : Res A} (f : A → Res B) → Holds P m → ((a : A) → P a → Holds Q (f a)) → Holds Q (m >>= f)

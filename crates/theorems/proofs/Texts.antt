@@ -6,13 +6,11 @@ use Prim.Native.Nat.{ℕ, zero, suc, _+_, _-_, _%_, _/_}
 use native.Mathlib.Omega.{arith}
 use lib.Dec.{ltb, eqb}
 use borrow.Author.Tests.{ne-eqb}
-use Rattle.model.specs.Res.{Res, Holds, such, none}
-use Rattle.model.specs.Records.{Cell, plain, ref, validWords}
-use Rattle.model.specs.Collector.{alloc as allocIn, read, write, report as reportOf}
-use Rattle.model.specs.Figure.{Figure, figure as figureIn}
-use Rattle.model.specs.Command.{Command, new, alloc, set, load, store, report, figure, digits, decimal, signed, spaced, figureText, cellText, newWord, allocWord, setWord, loadWord, storeWord, reportWord, figureWord, noWord, refusal, State, register, programBounds, theHeap, noHeap, pointerIn, added, floatIn, step, stepped, line}
+use Rattle.model.specs.Records.{Cell, plain, ref}
+use Rattle.model.specs.Figure.{Figure}
+use Rattle.model.specs.Run.{Line, newLine, allocLine, setLine, loadLine, storeLine, reportLine, figureLine, noLine}
+use Rattle.model.specs.Listing.{digits, decimal, signed, spaced, figureText, cellText, newWord, allocWord, setWord, loadWord, storeWord, reportWord, figureWord, noWord, lineText, line}
 use Rattle.theorems.specs.Reading.{noLF, IsLine}
-use Rattle.theorems.proofs.Res.{bind′, asked}
 
 noLF-join : (v w : List ℕ) → noLF (v ++ w) ≡ (noLF v && noLF w)
 unfolding noLF
@@ -66,57 +64,17 @@ unfolding cellText
 cell-text (plain k v) = spaced-text (k ∷ 0 ∷ v ∷ 0 ∷ [])
 cell-text (ref p) = spaced-text (5 ∷ p .heap ∷ p .base ∷ p .off ∷ [])
 
-pub refusal-text : (q : ℕ) → noLF (refusal q) ≡ true
-unfolding refusal noWord noLF
-refusal-text q = spaced-text (q ∷ [])
+pub line-text : (l : Line) → noLF (lineText l) ≡ true
+unfolding lineText newWord allocWord setWord loadWord storeWord reportWord figureWord noWord noLF
+line-text newLine = refl
+line-text (allocLine p counts) = simp (noLF-join, signed-text, spaced-text)
+line-text setLine = refl
+line-text (loadLine c) = cell-text c
+line-text storeLine = refl
+line-text (reportLine numbers) = spaced-text numbers
+line-text (figureLine f) = figure-text f
+line-text (noLine q) = spaced-text (q ∷ [])
 
--- a command's text, and its line
-
-abbrev OneLine : List ℕ × State → Type 0
-OneLine r = noLF (r .0) ≡ true
-
-step-text : (c : Command) (s : State) → Holds OneLine (step c s)
-unfolding step newWord allocWord setWord loadWord storeWord reportWord figureWord noLF
-step-text (new z) s =
-    bind′ (noHeap s) _ λ _ _.
-    asked 1 (programBounds z) _ λ _.
-    such refl
-step-text (alloc r a) s =
-    bind′ (theHeap s) _ λ h _.
-    bind′ (allocIn h (s .registers) a) _ λ x _.
-    such (simp (noLF-join, signed-text, spaced-text))
-step-text (set r a b o) s =
-    asked 3 (validWords a b o) _ λ _.
-    such refl
-step-text (load r p d) s =
-    bind′ (theHeap s) _ λ h _.
-    bind′ (pointerIn (register s p)) _ λ x _.
-    bind′ (added x d) _ λ y _.
-    bind′ (read h y) _ λ c _.
-    such (cell-text c)
-step-text (store r p d) s =
-    bind′ (theHeap s) _ λ h _.
-    bind′ (pointerIn (register s p)) _ λ x _.
-    bind′ (added x d) _ λ y _.
-    bind′ (write h y (register s r)) _ λ _ _.
-    such refl
-step-text report s =
-    bind′ (theHeap s) _ λ h _.
-    bind′ (reportOf h) _ λ x _.
-    such (spaced-text (x .0))
-step-text (figure r) s =
-    bind′ (floatIn (register s r)) _ λ b _.
-    bind′ (figureIn b) _ λ f _.
-    such (figure-text f)
-
-pub stepped-text : (c : Command) (s : State) → noLF (stepped s (step c s) .0) ≡ true
-unfolding stepped
-stepped-text c s = go (step-text c s)
-  where
-    go : {r : Res (List ℕ × State)} → Holds OneLine r → noLF (stepped s r .0) ≡ true
-    go (such h) = h
-    go (none {q = q}) = refusal-text q
-
-pub line-is : (n : ℕ) (text : List ℕ) → noLF text ≡ true → IsLine (line n text)
+pub line-is : (n : ℕ) (l : Line) → IsLine (line n l)
 unfolding line noLF
-line-is n text h = record { text = decimal n ++ 0x20 ∷ text; one = simp (noLF-join, decimal-text, h); ends = simp append-assoc }
+line-is n l = record { text = decimal n ++ 0x20 ∷ lineText l; one = simp (noLF-join, decimal-text, line-text l); ends = simp append-assoc }

@@ -1,3 +1,4 @@
+pub mod Holds
 pub mod Fit
 pub mod Kept
 pub mod Reading

@@ -8,7 +8,9 @@ use lib.Dec.{eqb}
 use lib.ListN.{length}
 use Rattle.model.specs.Lists.{flat}
 use Rattle.model.specs.Res.{ok, refuse}
-use Rattle.model.specs.Command.{Command, parse, refusal, line, lines, listing}
+use Rattle.model.specs.Command.{Command, parse}
+use Rattle.model.specs.Run.{noLine}
+use Rattle.model.specs.Listing.{line, lines, listing}
 
 -- the commands that follow one another in the bytes, each with a byte of its own and its operands, and the bytes that are left
 pub data Parsed : List ℕ → List Command → List ℕ → Type 0 where
@@ -30,7 +32,7 @@ pub record IsLine (l : List ℕ) : Type 0 where
 -- the line after those of n commands, if bytes are left
 abbrev pub lastLine : ℕ → List ℕ → List (List ℕ)
 lastLine n [] = []
-lastLine n (b ∷ w) = line (suc n) (refusal 12) ∷ []
+lastLine n (b ∷ w) = line (suc n) (noLine 12) ∷ []
 
 -- a file within 65,536 bytes
 pub record ReadThrough (file : List ℕ) : Type 0 where

@@ -1,6 +1,6 @@
 use native.Mathlib.Omega.{arith}
 use borrow.Author.Tests.{le-leb, lt-leb}
-use Rattle.model.specs.Command.{programBounds}
+use Rattle.model.specs.Run.{programBounds}
 use Rattle.command.proofs.is_bounded.Statement.{statement}
 use Rattle.command.proofs.is_bounded.Tie as tie
 

@@ -1,7 +1,7 @@
 use Prim.Native.Nat.{_/_}
 use native.Mathlib.Omega.{arith}
 use borrow.Author.Needs.{needs}
-use Rattle.model.specs.Command.{figureText}
+use Rattle.model.specs.Listing.{figureText}
 use Rattle.figure.proofs.Digits.{decimal-length}
 use Rattle.figure.proofs.Writes.{wrote-both, sign-length}
 use Rattle.figure.proofs.figure_text.Statement.{statement}

@@ -6,7 +6,7 @@ use mir.Syntax.{w64}
 use mir.Val.{toZ, ofZ}
 use mir.ValLaws.{toZ-ofZ}
 use borrow.Author.Needs.{needs}
-use Rattle.model.specs.Command.{allocWord}
+use Rattle.model.specs.Listing.{allocWord}
 use Rattle.figure.proofs.Writes.{wrote-both}
 use Rattle.lines.specs.Answers.{allocText}
 use Rattle.lines.proofs.Loops.{spaced-length}

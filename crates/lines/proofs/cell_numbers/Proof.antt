@@ -5,7 +5,7 @@ use mir.Syntax.{w64}
 use mir.Val.{ofZ}
 use mir.ValLaws.{toZ-ofZ}
 use borrow.Author.Needs.{needs}
-use Rattle.model.specs.Command.{spaced, cellText}
+use Rattle.model.specs.Listing.{spaced, cellText}
 use Rattle.value.specs.Value.{valueCell}
 use Rattle.lines.proofs.Cells.{plain-text}
 use Rattle.lines.proofs.cell_numbers.Statement.{statement}

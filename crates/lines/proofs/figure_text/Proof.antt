@@ -1,5 +1,5 @@
 use borrow.Author.Needs.{needs}
-use Rattle.model.specs.Command.{figureWord}
+use Rattle.model.specs.Listing.{figureWord}
 use Rattle.figure.proofs.Writes.{wrote-both}
 use Rattle.lines.specs.Answers.{figureLine}
 use Rattle.lines.proofs.figure_text.Statement.{statement}

@@ -1,6 +1,6 @@
 use native.Mathlib.Omega.{arith}
 use borrow.Author.Needs.{needs}
-use Rattle.model.specs.Command.{line}
+use Rattle.model.specs.Listing.{line}
 use Rattle.figure.proofs.Digits.{decimal-length}
 use Rattle.figure.proofs.Writes.{wrote-both}
 use Rattle.lines.proofs.Lengths.{answer-length}

@@ -1,5 +1,5 @@
 use borrow.Author.Needs.{needs}
-use Rattle.model.specs.Command.{loadWord}
+use Rattle.model.specs.Listing.{loadWord}
 use Rattle.figure.proofs.Writes.{wrote-both}
 use Rattle.lines.specs.Answers.{loadText}
 use Rattle.lines.proofs.load_text.Statement.{statement}

@@ -1,5 +1,5 @@
 use borrow.Author.Needs.{needs}
-use Rattle.model.specs.Command.{noWord, refusal}
+use Rattle.model.specs.Listing.{noWord, refusal}
 use Rattle.figure.proofs.Writes.{wrote-both}
 use Rattle.lines.proofs.refusal_text.Statement.{statement}
 use Rattle.lines.proofs.refusal_text.Tie as tie

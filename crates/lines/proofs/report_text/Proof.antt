@@ -1,5 +1,5 @@
 use borrow.Author.Needs.{needs}
-use Rattle.model.specs.Command.{reportWord}
+use Rattle.model.specs.Listing.{reportWord}
 use Rattle.figure.proofs.Writes.{wrote-both}
 use Rattle.lines.specs.Answers.{reportText}
 use Rattle.lines.proofs.report_text.Statement.{statement}

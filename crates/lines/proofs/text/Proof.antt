@@ -1,5 +1,5 @@
 use borrow.Author.Needs.{needs}
-use Rattle.model.specs.Command.{newWord, setWord, storeWord}
+use Rattle.model.specs.Listing.{newWord, setWord, storeWord}
 use Rattle.lines.specs.Answers.{answerText}
 use Rattle.lines.proofs.text.Statement.{statement}
 use Rattle.lines.proofs.text.Tie as tie

@@ -1,6 +1,6 @@
 use mathlib.Core.List.{append-nil}
 use borrow.Author.Needs.{needs}
-use Rattle.model.specs.Command.{spaced}
+use Rattle.model.specs.Listing.{spaced}
 use Rattle.figure.proofs.Writes.{wrote-both}
 use Rattle.figure.proofs.text.spaced.Statement.{statement}
 use Rattle.figure.proofs.text.spaced.Tie as tie
