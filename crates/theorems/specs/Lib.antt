@@ -6,3 +6,4 @@ pub mod Rounding
 pub mod Does
 pub mod Apart
 pub mod Numbered
+pub mod Program
