@@ -1,11 +1,17 @@
 #!/usr/bin/env python3
-"""Replays tests/vectors/listings.txt: the program must print the listings that the published Rust gave. No Rust is needed."""
+"""Replays tests/vectors/listings.txt: the program must print the listings that the published Rust gave. No Rust is needed.
+
+Each wanted kind of answer (tests/vectors/kinds.py) must stand in one of them.
+"""
 import sys
 from typing import Iterator
 
 from program import ROOT, listing
 
 STORED = ROOT / "tests" / "vectors" / "listings.txt"
+sys.path.insert(0, str(STORED.parent))
+
+from kinds import WANTED, kinds
 
 
 def rows() -> Iterator[tuple[bytes, bytes, bool]]:
@@ -17,15 +23,16 @@ def rows() -> Iterator[tuple[bytes, bytes, bool]]:
 
 
 def main() -> None:
-    count = 0
+    count, missing = 0, set(WANTED)
     for number, (file, right, early) in enumerate(rows(), 1):
         ours = listing(file)
         if not (ours.startswith(right) if early else ours == right):
             sys.exit(f"vectors: row {number}, file {file.hex()}:\nprinted\n{ours.decode()}must be\n{right.decode()}")
+        missing.difference_update(kinds(file, right))
         count += 1
-    if not count:
-        sys.exit(f"vectors: no row in {STORED}")
-    print(f"vectors: {count} listings agree")
+    if missing:
+        sys.exit(f"vectors: {STORED} lacks these kinds of answers: {', '.join(sorted(missing))}")
+    print(f"vectors: {count} listings agree, with {len(WANTED)} kinds of answers")
 
 
 if __name__ == "__main__":
