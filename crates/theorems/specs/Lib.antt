@@ -8,3 +8,4 @@ pub mod Apart
 pub mod Numbered
 pub mod Program
 pub mod Doors
+pub mod Files
