@@ -1,25 +1,26 @@
 -- Alloc, write and report leave a fit heap of the same sizes.
-use mathlib.Core.Path.{_≡_, refl, ap, _∙_}
+use mathlib.Core.Path.{_≡_, refl, _∙_}
 use mathlib.Core.Bool.{Bool, true, false, _&&_}
-use mathlib.Core.Logic.{_⊎_, inl, inr, ⊎-elim}
+use mathlib.Core.Logic.{_⊎_, inl, inr}
 use mathlib.Core.List.{List, []}
 use Prim.Native.Nat.{ℕ, zero, suc, _-_, _≤_, _<_}
 use lib.Dec.{ltb}
-use lib.ListN.{length, getD, set, length-set}
-use Rattle.model.specs.Res.{ok, refuse}
-use Rattle.model.specs.Records.{Ptr, Cell, blank, valid, whole}
-use Rattle.model.specs.Barrier.{most, countOut}
+use lib.ListN.{length, getD, length-set}
+use Rattle.model.specs.Lists.{flat}
+use Rattle.model.specs.Res.{ok, refuse, _>>=_, each}
+use Rattle.model.specs.Records.{Ptr, Cell, ref, blank, valid, allValid, whole}
+use Rattle.model.specs.Barrier.{most, countOut, masks}
 use Rattle.model.specs.Heap.{Nursery, Elder, Sizes, Heap}
-use Rattle.model.specs.Nursery.{bump}
-use Rattle.model.specs.Elder.{oldMembers, collectOld}
-use Rattle.model.specs.Collector.{Allocation, collectAndAlloc, alloc, youngAt, oldAt, outYoung, writeYoung, writeOld, inYoung, inOld, write, report}
+use Rattle.model.specs.Nursery.{bump, survivors, collectYoung}
+use Rattle.model.specs.Elder.{oldMembers, collectOld, placeNew, moveOne, movesOf}
+use Rattle.model.specs.Collector.{swapAll, Allocation, allocAgain, collectAndAlloc, alloc, youngAt, oldAt, read, outYoung, writeYoung, writeOld, inYoung, inOld, write, report}
 use Rattle.model.specs.Demand.{Collected}
 use Rattle.theorems.specs.Holds.{Holds, such, none}
-use Rattle.theorems.specs.Fit.{FitBarrier, FitNursery}
+use Rattle.theorems.specs.Fit.{FitBarrier, FitNursery, Fit}
 use Rattle.theorems.proofs.Res.{bind, bind′, asked, weaken}
 use borrow.Author.Tests.{ltb-true, ltb-false}
-use Rattle.theorems.proofs.Lists.{and-left}
-use Rattle.theorems.proofs.Contents.{Valid, all-valid, valid-all, cell-set-from}
+use Rattle.theorems.proofs.Lists.{and-left, flat-in}
+use Rattle.theorems.proofs.Contents.{Valid, all-valid, valid-all, at-valid, valid-set}
 use Rattle.theorems.proofs.Barrier.{in-fit, out-fit}
 use Rattle.theorems.proofs.Elder.{Good, sweep-good, write-good}
 use Rattle.theorems.proofs.Collect.{GoodHeap, bump-fit, collect-young, Told, collect-told}
@@ -79,7 +80,7 @@ module _ (M : Type 0) where
         lens = f .lens;
         tiled = f .tiled;
         cells = length-set (y .cells) i c ∙ f .cells;
-        valid = valid-all (set (y .cells) i c) (λ x k. ⊎-elim (all-valid (y .cells) (f .valid) x) (λ e. ap valid e ∙ t) (cell-set-from (y .cells) i c k));
+        valid = valid-set (y .cells) i c (f .valid) t;
       })))
 
   old-at : (h : Heap) (p : Ptr) → Holds (λ s. (s ≡ getD (h .old .slots) (p .base) []) × (p .off < length s)) (oldAt h p)
@@ -115,3 +116,37 @@ module _ (M : Type 0) where
       bind _ (collect-young (h .size) (h .young) [] [] (g .young)) (λ y k.
       bind _ (collect-old-good (h .size) (h .old) [] [] (g .old)) (λ e q.
       such (record { good = record { sizes = g .sizes; young = k .fit; old = q }; same-size = refl })))
+
+-- what a call answers: a read a valid cell, an alloc a pointer to heap 0 or 1
+
+pub read-fit : (h : Heap) (p : Ptr) → Fit h → Holds (λ c. valid c ≡ true) (read h p)
+unfolding read oldAt
+read-fit h p f = go (p .heap)
+  where
+    slot : List Cell
+    slot = getD (h .old .slots) (p .base) []
+
+    slot-valid : allValid slot ≡ true
+    slot-valid = valid-all slot (λ c m. all-valid (flat (h .old .slots)) (f .old .valid) c (flat-in (h .old .slots) (p .base) c m))
+
+    go : (k : ℕ) → Holds (λ c. valid c ≡ true) (elim k [ zero ↦ youngAt h p >>= λ i. ok (getD (h .young .cells) i blank) | suc k ↦ elim k [ zero ↦ oldAt h p >>= λ s. ok (getD s (p .off) blank) | suc j ↦ refuse 8 ] ])
+    go zero = bind′ (youngAt h p) _ (λ i _. such (at-valid (h .young .cells) i (f .young .valid)))
+    go (suc zero) = bind (λ s. ok (getD s (p .off) blank)) (asked 8 (ltb (p .off) (length slot)) (λ _. ok slot) (λ _. such slot-valid)) (λ s v. such (at-valid s (p .off) v))
+    go (suc (suc j)) = none
+
+pub new-valid : (h : Heap) (roots : List Cell) (a : ℕ) → Holds (λ (x : Allocation). valid (ref (x .ptr)) ≡ true) (alloc h roots a)
+unfolding alloc collectAndAlloc allocAgain stayed whole valid
+new-valid h roots a = asked 5 (ltb 0 a && ltb a 0x8000_0000_0000_0000) _ (λ _. go (ltb a (h .size .n - h .young .cursor)))
+  where
+    again : (z : Sizes) (y : Nursery) (e : Elder) (t : Bool) → Holds (λ (g : Ptr × Nursery × Elder). valid (ref (g .0)) ≡ true) (elim t [ true ↦ ok (whole 0 (y .cursor), bump y a, e) | false ↦ placeNew z a e >>= λ r. ok (whole 1 (r .0), y, r .1) ])
+    again z y e true = such refl
+    again z y e false = bind′ (placeNew z a e) _ (λ r _. such refl)
+
+    go : (t : Bool) → Holds (λ (x : Allocation). valid (ref (x .ptr)) ≡ true) (elim t [ true ↦ ok (stayed h roots a) | false ↦ collectAndAlloc h roots a ])
+    go true = such refl
+    go false =
+        bind′ (collectYoung (h .young) roots (masks (h .old .bar))) _ (λ c _.
+        bind′ (each (moveOne (h .size) (h .young) roots (masks (h .young .bar))) (survivors (c .0)) (record { elder = h .old; steps = [] })) _ (λ v _.
+        bind _ (again (h .size) (c .1) (v .elder) (ltb a (h .size .n - c .1 .cursor))) (λ g low.
+        bind′ (each swapAll (movesOf (v .steps)) (g .1, g .2, roots)) _ (λ r _.
+        such low))))

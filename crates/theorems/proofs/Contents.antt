@@ -94,6 +94,15 @@ unfolding allValid
 all-valid [] e c m = absurd (List·Memᴰ·not-nil m)
 all-valid (d ∷ l) e c m = ⊎-elim (λ q. ap valid q ∙ and-left (valid d) (allValid l) e) (λ n. all-valid l (and-right (valid d) (allValid l) e) c n) (List·Memᴰ·cases-cons m)
 
+pub at-valid : (l : List Cell) (i : ℕ) → allValid l ≡ true → valid (getD l i blank) ≡ true
+unfolding allValid valid validPlain blank
+at-valid [] i e = refl
+at-valid (c ∷ l) zero e = and-left (valid c) (allValid l) e
+at-valid (c ∷ l) (suc i) e = at-valid l i (and-right (valid c) (allValid l) e)
+
+pub valid-set : (l : List Cell) (i : ℕ) (c : Cell) → allValid l ≡ true → valid c ≡ true → allValid (set l i c) ≡ true
+valid-set l i c v t = valid-all (set l i c) (λ x k. ⊎-elim (all-valid l v x) (λ e. ap valid e ∙ t) (cell-set-from l i c k))
+
 pub valid-blank : (n : ℕ) → Valid (replicate n blank)
 unfolding valid validPlain blank
 valid-blank zero c m = absurd (List·Memᴰ·not-nil m)

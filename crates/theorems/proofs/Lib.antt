@@ -1,5 +1,6 @@
 -- Laws of the definitions' own parts, then the heap's, then the theorems: Image (encode and decode), Kept (what calls leave),
--- Demand (demand 3), Reading (command files), Figure (rounding).
+-- Demand (demand 3), Reading (command files), Figure (rounding), Numbered (refusals), Doors and Files (demand 3 for the doors in
+-- use and for command files).
 pub mod Res
 pub mod Lists
 pub mod Reach
@@ -26,3 +27,7 @@ pub mod Does
 pub mod Apart
 pub mod Parts
 pub mod Numbered
+pub mod Doors
+pub mod Program
+pub mod Following
+pub mod Files

@@ -1,15 +1,15 @@
 -- The members of a collection are the least set, and few enough.
-use mathlib.Core.Path.{_≡_, ap}
+use mathlib.Core.Path.{_≡_, refl, ap}
 use mathlib.Core.Bool.{true, _&&_}
 use mathlib.Core.Logic.{_↔_, _≢_, ⊎-elim, ⊎-map}
 use mathlib.Core.List.{List, [], _∷_, _++_, map, List·Memᴰ, List·Memᴰ·head, List·Memᴰ·tail, List·Memᴰ·cases-cons, List·Memᴰ·not-nil, List·Memᴰ·append-cases, Memᴰ·cast, Memᴰ·append-left, Memᴰ·append-right}
-use Prim.Native.Nat.{ℕ, _+_, _*_, _≤_, _<_, zero-le, suc-le-suc}
+use Prim.Native.Nat.{ℕ, zero, suc, _+_, _*_, _≤_, _<_, zero-le, suc-le-suc}
 use native.Mathlib.Nat.{le-step, le-trans, zero-add}
 use native.Mathlib.Omega.{arith}
 use lib.Dec.{eqb}
 use lib.ListN.{length, getD, drop, length-append, length-map, List·getD-map}
 use Rattle.model.specs.Lists.{keepIf, flat, places}
-use Rattle.model.specs.Reach.{Exact}
+use Rattle.model.specs.Reach.{Exact, enter, walk, closure}
 use Rattle.model.specs.Records.{Ptr, Cell, plain, ref, blank, whole, samePtr, inHeap, pointers, pointersTo}
 use Rattle.model.specs.Barrier.{Barrier, masks, matches}
 use Rattle.model.specs.Heap.{Nursery, Elder, Heap, part, inUse}
@@ -188,3 +188,23 @@ old-exact h roots e = exact-map begun (old-leads e) (walk-old e roots (masks (h 
   where
     begun : (p : Ptr) → List·Memᴰ p (oldStart e roots (masks (h .young .bar))) ↔ OldStart h roots e p
     begun p = rw (List·getD-map length (e .slots) (p .base) []) at (starts 1 roots (h .young .bar) (map length (e .slots)) p)
+
+-- without roots and masks there is no member
+
+none-matched : (own : ℕ) (bs : List ℕ) → matched own [] bs ≡ []
+unfolding matched keepIf matches
+none-matched own [] = refl
+none-matched own (b ∷ bs) = none-matched own bs
+
+none-walked : (step : Ptr → List Ptr) (k : ℕ) → closure samePtr step k [] ≡ []
+unfolding closure walk enter
+none-walked step zero = refl
+none-walked step (suc k) = refl
+
+pub no-young : (y : Nursery) → youngMembers y [] [] ≡ []
+unfolding youngMembers youngStart pointers
+no-young y = rw (none-matched 0 (places 0 (y .lens))) (none-walked (youngStep y) _)
+
+pub no-old : (e : Elder) → oldMembers e [] [] ≡ []
+unfolding oldMembers oldStart pointers
+no-old e = rw (none-matched 1 (places 0 _)) (none-walked (oldStep e) _)

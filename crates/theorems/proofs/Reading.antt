@@ -145,7 +145,7 @@ lined n s [] [] l m = absurd (List·Memᴰ·not-nil m)
 lined n s [] (b ∷ w) l m = rw (List·Memᴰ·eq-of-singleton m) (line-is n (noLine 12))
 lined n s (c ∷ cs) left l m = ⊎-elim (λ e. rw e (line-is n (stepped s (step c s) .0))) (lined (suc n) (stepped s (step c s) .1) cs left l) (List·Memᴰ·cases-cons m)
 
-within : (file : List ℕ) → length file ≤ longestFile → lines file ≡ linesFrom 1 started (parseAll file .0) (parseAll file .1)
+pub within : (file : List ℕ) → length file ≤ longestFile → lines file ≡ linesFrom 1 started (parseAll file .0) (parseAll file .1)
 unfolding lines
 within file h = rw (le-leb (length file) longestFile h, lines)
 

@@ -7,3 +7,5 @@ pub mod Does
 pub mod Apart
 pub mod Numbered
 pub mod Program
+pub mod Doors
+pub mod Files
