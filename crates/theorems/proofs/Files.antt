@@ -24,7 +24,7 @@ use Rattle.theorems.proofs.Image.{decode-encode, fresh-fit}
 use Rattle.theorems.proofs.Demand.{demand-3}
 use Rattle.theorems.proofs.Reading.{within}
 use Rattle.theorems.proofs.Program.{limits-bound}
-use Rattle.theorems.proofs.Doors.{fresh-image}
+use Rattle.theorems.proofs.Doors.{fresh-image, history-met}
 use Rattle.theorems.proofs.Following.{At, One, put-registered, one}
 
 -- the calls that a run follows are a history
@@ -79,6 +79,7 @@ module _ (s : State) (bare : s .heap ≡ none) (g : Registered s) (z : Sizes) (b
         image = f .image;
         follows = f .follows;
         history = follows-history (f .follows);
+        met = history-met (fresh-image z (limits-bound z bounds)) (follows-history (f .follows));
         demand = demand-3 z (limits-bound z bounds) (f .events) (f .image) (follows-history (f .follows));
       }
 

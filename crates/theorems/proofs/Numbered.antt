@@ -132,8 +132,8 @@ room-numbered z k e =
     (asks 7 (leb (inUse (set (e .slots) (newBase e) []) + k) (z .c)) refl)
 
 put-numbered : (cs : List Cell) (e : Elder) → Numbered (11 ∷ []) (put cs e)
-unfolding put
-put-numbered cs e = bound (eaches (in-numbered 1) cs (e .bar)) (λ _. answered)
+unfolding put mem
+put-numbered cs e = fewer (eaches (in-numbered 1) cs (e .bar)) refl (λ _. answered)
 
 -- room, then cells put there
 placed-numbered : (z : Sizes) (k : ℕ) (cs : List Cell) (e : Elder) → Numbered (7 ∷ 11 ∷ []) (room z k e >>= λ _. put cs e)
@@ -141,8 +141,8 @@ unfolding mem
 placed-numbered z k cs e = fewer (room-numbered z k e) refl (λ _. within (put-numbered cs e) refl)
 
 full-numbered : (z : Sizes) (roots : List Cell) (ms : List ℕ) (v : Moving) → Numbered (11 ∷ 10 ∷ []) (collectIfFull z roots ms v)
-unfolding collectIfFull
-full-numbered z roots ms v = either (leb (z .t) (held (v .elder .slots))) (bound (old-numbered (v .elder) roots ms) (λ _. answered)) answered
+unfolding collectIfFull mem
+full-numbered z roots ms v = either (leb (z .t) (held (v .elder .slots))) (fewer (old-numbered (v .elder) roots ms) refl (λ _. answered)) answered
 
 move-numbered : (z : Sizes) (y : Nursery) (roots : List Cell) (ms : List ℕ) (p : Ptr) (v : Moving) → Numbered (7 ∷ 10 ∷ 11 ∷ []) (moveOne z y roots ms p v)
 unfolding moveOne place mem
@@ -151,8 +151,8 @@ move-numbered z y roots ms p v =
     fewer (placed-numbered z _ _ (u .elder)) refl (λ _. answered))
 
 again-numbered : (z : Sizes) (a : ℕ) (y : Nursery) (e : Elder) → Numbered (7 ∷ 11 ∷ []) (allocAgain z a y e)
-unfolding allocAgain placeNew
-again-numbered z a y e = either (ltb a (z .n - y .cursor)) answered (bound (placed-numbered z a _ e) (λ _. answered))
+unfolding allocAgain placeNew mem
+again-numbered z a y e = either (ltb a (z .n - y .cursor)) answered (fewer (placed-numbered z a _ e) refl (λ _. answered))
 
 -- the change of pointers
 
@@ -164,7 +164,7 @@ all-numbered : (m : Ptr × ℕ) (g : Nursery × Elder × List Cell) → Numbered
 unfolding swapAll swapYoung swapOld mem
 all-numbered m g =
     fewer (bound (eaches (swap-numbered 0 m) (take (g .0 .cursor) (g .0 .cells)) (g .0 .bar)) (λ _. answered)) refl (λ _.
-    bound (bound (eaches (eaches (swap-numbered 1 m)) (g .1 .slots) (g .1 .bar)) (λ _. answered)) (λ _. answered))
+    fewer (bound (eaches (eaches (swap-numbered 1 m)) (g .1 .slots) (g .1 .bar)) (λ _. answered)) refl (λ _. answered))
 
 -- the calls on a heap
 
@@ -223,7 +223,7 @@ write-numbered h p c =
 
 report-numbered : (h : Heap) → Numbered reportQuestions (report h)
 unfolding report reportQuestions mem
-report-numbered h = fewer (young-cleared (h .young)) refl (λ _. bound (old-numbered (h .old) [] []) (λ _. answered))
+report-numbered h = fewer (young-cleared (h .young)) refl (λ _. fewer (old-numbered (h .old) [] []) refl (λ _. answered))
 
 -- a library call
 
@@ -341,4 +341,4 @@ step-numbered (Command.store r p d) s =
     fewer (added-numbered x d) refl (λ y.
     fewer (write-numbered h y _) refl (λ _. answered))))
 step-numbered Command.report s = fewer (heap-numbered s) refl (λ h. fewer (report-numbered h) refl (λ _. answered))
-step-numbered (Command.figure r) s = fewer (float-numbered _) refl (λ _. bound (figure-numbered _) (λ _. answered))
+step-numbered (Command.figure r) s = fewer (float-numbered _) refl (λ _. fewer (figure-numbered _) refl (λ _. answered))

@@ -16,6 +16,7 @@ use Rattle.model.specs.Run.{State, started, holding, register, Line, newLine, a
 use Rattle.model.specs.Listing.{line, linesFrom, lines}
 use Rattle.model.specs.Demand.{History, Demand}
 use Rattle.theorems.specs.Program.{programScratch}
+use Rattle.theorems.specs.Doors.{AllFormed}
 
 -- The call that a command makes: an alloc with the registers as roots and the program's scratch, a read, a write. The other
 -- commands make none, and one that is refused before its call makes none.
@@ -68,7 +69,8 @@ pub record Registered (s : State) : Type 0 where
 abbrev pub opening : Sizes → State → State
 opening z s = holding (some (fresh z)) (s .registers) s
 
--- `new`, then commands: the run follows its calls, they are a history from the fresh heap, and demand 3 holds of it
+-- `new`, then commands: the run follows its calls, which are a history from the fresh heap, each on a formed image, and demand 3
+-- holds of it
 pub record Served (s : State) (z : Sizes) (cs : List Command) : Type 0 where
   pub opens : stepped s (step (new z) s) ≡ (newLine, opening z s)
   pub answers : List Line
@@ -77,6 +79,7 @@ pub record Served (s : State) (z : Sizes) (cs : List Command) : Type 0 where
   pub image : List ℕ
   pub follows : Follows (opening z s) (encode (fresh z)) cs answers events last image
   pub history : History (encode (fresh z)) events image
+  pub met : AllFormed (encode (fresh z)) events
   pub demand : Demand z events image
 
 -- Files
