@@ -6,13 +6,13 @@ use Prim.Native.Nat.{ℕ, _+_, _-_, _%_, _<_, _≤_}
 use native.Mathlib.Omega.{arith}
 use native.Mathlib.Numerals.{add-one}
 use lib.Dec.{eqb}
-use lib.ListN.{getD, set, replicate}
+use lib.ListN.{getD, set, replicate, getD-replicate}
 use types.Run.{OneOf, miss}
 use denote.Enum.Declared.{tagOf}
 use borrow.Author.Tests.{lt-ltb, le-ltb, eq-eqb, ne-eqb}
 use Rattle.model.specs.Res.{Res, ok, refuse}
 use Rattle.model.specs.Records.{Ptr, Cell, plain, ref, blank}
-use Rattle.model.specs.Barrier.{Barrier, present, cache, most, counts, count, up, down, countIn, countOut}
+use Rattle.model.specs.Barrier.{Barrier, absent, present, cache, most, counts, count, up, down, countIn, countOut}
 use Rattle.value.proofs.Value.{the-type}
 use Rattle.value.specs.declared.Pointer.{Pointer}
 use Rattle.value.specs.declared.Value.{Value}
@@ -67,7 +67,16 @@ module _ (b s : WriteBarrier) where
   unfolding counts
   opened-present h e = record { is = ap (λ (x : WriteBarrier). x .present) e ∙ h; same = rw h (ap (λ (x : WriteBarrier). x .counts) e) }
 
+-- a full count is no absent barrier's
+full-present : (b : Barrier) (k : ℕ) → k < 256 → 4294967295 ≤ getD (counts b) k 0 → present (counts b) ≡ b
+unfolding counts cache
+full-present absent k small h = absurd (omega (arith, getD-replicate {A = ℕ} 256 k 0 0 small))
+full-present (present cs) k small h = refl
+
 module _ (b s : WriteBarrier) (o : Opened b s) (k : ℕ) where
+  pub full-back : k < 256 → 4294967295 ≤ getD (s .counts) k 0 → barrierOf s ≡ barrierOf b
+  full-back small h = rw (o .is, o .same) (full-present (barrierOf b) k small (rw (o .same) at h))
+
   pub up-full : 4294967295 ≤ getD (s .counts) k 0 → refuse 11 ≡ up k (barrierOf b)
   unfolding up count most
   up-full h = rw (← o .same, le-ltb _ _ h)

@@ -137,7 +137,7 @@ module _ (f : Cell → Barrier → Res Barrier) (w : List ℕ) (b₀ : Barrier) 
         pub turn-done : c .answer ≡ Done → Left f w b₀ (i + 3) (barrierOf (c .barrier))
         turn-done d = on (barrierOf (c .barrier)) (ap (λ (x : Cell). f x b) (sym (s .cell)) ∙ sym e ∙ rw d)
 
-        pub turn-refused : (q : ℕ) → c .answer ≡ Refused q → counted c ≡ each f (cellsIn w) b₀
+        pub turn-refused : (q : ℕ) → c .answer ≡ Refused q → refuse q ≡ each f (cellsIn w) b₀
         turn-refused q d =
             let no : f (cellAt w i) b ≡ refuse q = ap (λ (x : Cell). f x b) (sym (s .cell)) ∙ sym e ∙ rw d in
-            rw d (rw no at next)
+            rw no at next

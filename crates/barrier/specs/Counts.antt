@@ -1,4 +1,5 @@
 -- What a `WriteBarrier` and the answers over it are in the model.
+use mathlib.Core.Path.{_≡_}
 use mathlib.Core.Bool.{Bool, true, false, _&&_, _||_, not}
 use mathlib.Core.List.{List, [], _∷_}
 use Prim.Native.Nat.{ℕ, _%_, _/_}
@@ -30,6 +31,16 @@ countingAnswer (Refused q) = refuse q
 
 abbrev pub counted : Counted → Res Barrier
 counted c = answerOf (c .answer) (c .barrier)
+
+-- the barrier that a step hands back: what it made, or after a refusal the barrier as it came
+abbrev pub handed : Res Barrier → Barrier → Barrier
+handed (ok b) before = b
+handed (refuse q) before = before
+
+-- r is what the step answers, with the barrier that it hands back
+pub record HandsBack (step : Res Barrier) (before : Barrier) (r : Counted) : Type 0 where
+  pub counted : counted r ≡ step
+  pub back : barrierOf (r .barrier) ≡ handed step before
 
 -- the first word of a cell that points to another heap than own
 unfoldable pub crossing : ℕ → ℕ → Bool

@@ -12,7 +12,7 @@ ghost use Rattle.model.specs.Records.{validWords, wholeCells};
 ghost use Rattle.model.specs.Barrier.{countIn, countOut};
 ghost use Rattle.model.specs.Calls.{cellsIn};
 ghost use Rattle.value.specs.Value.{Spelled};
-ghost use Rattle.barrier.specs.Counts.{barrierOf, counted, crossing, anyCrossing};
+ghost use Rattle.barrier.specs.Counts.{barrierOf, HandsBack, crossing, anyCrossing};
 
 // Whether a cell with this first word counts. Tested first, since each count step copies the barrier.
 fn crosses(tag: u64, own: u8) -> bool
@@ -33,19 +33,19 @@ pub fn any_crosses(cells: &[u64], own: u8) -> bool
     requires { ⌜ wholeCells (now cells) ≡ true ⌝ }
     ensures { λ r. ⌜ r ≡ anyCrossing own (now (cells .entry)) ⌝ }
 {
-    let mut i = 0;
-    while i < cells.len() {
-        if crosses(cells[i], own) {
+    let mut at = 0;
+    while at < cells.len() {
+        if crosses(cells[at], own) {
             return true;
         }
-        i += 3;
+        at += 3;
     }
     false
 }
 
 pub fn count_cells_in(cells: &[u64], own: u8, barrier: WriteBarrier) -> Counted
     requires { ⌜ wholeCells (now cells) ≡ true ⌝ }
-    ensures { λ r. ⌜ counted r ≡ each (countIn own) (cellsIn (now (cells .entry))) (barrierOf barrier) ⌝ }
+    ensures { λ r. ⌜ HandsBack (each (countIn own) (cellsIn (now (cells .entry))) (barrierOf barrier)) (barrierOf barrier) r ⌝ }
 {
     let mut b = barrier;
     let mut i = 0;
@@ -55,7 +55,7 @@ pub fn count_cells_in(cells: &[u64], own: u8, barrier: WriteBarrier) -> Counted
             let c = b.count_in(own, v);
             let a = c.answer;
             let Counting::Done = a else {
-                return c;
+                return Counted { answer: a, barrier };
             };
             let next = c.barrier;
             b = next;
@@ -70,7 +70,7 @@ pub fn count_cells_in(cells: &[u64], own: u8, barrier: WriteBarrier) -> Counted
 
 pub fn count_cells_out(cells: &[u64], own: u8, barrier: WriteBarrier) -> Counted
     requires { ⌜ wholeCells (now cells) ≡ true ⌝ }
-    ensures { λ r. ⌜ counted r ≡ each (countOut own) (cellsIn (now (cells .entry))) (barrierOf barrier) ⌝ }
+    ensures { λ r. ⌜ HandsBack (each (countOut own) (cellsIn (now (cells .entry))) (barrierOf barrier)) (barrierOf barrier) r ⌝ }
 {
     let mut b = barrier;
     let mut i = 0;
@@ -80,7 +80,7 @@ pub fn count_cells_out(cells: &[u64], own: u8, barrier: WriteBarrier) -> Counted
             let c = b.count_out(own, v);
             let a = c.answer;
             let Counting::Done = a else {
-                return c;
+                return Counted { answer: a, barrier };
             };
             let next = c.barrier;
             b = next;

@@ -8,10 +8,7 @@ ghost use mathlib.Core.Path.{_≡_};
 ghost use Prim.Native.Nat.{_%_};
 ghost use Rattle.model.specs.Barrier.{absent, countIn, countOut};
 ghost use Rattle.value.specs.Value.{valueCell};
-ghost use Rattle.barrier.specs.Counts.{barrierOf, counted};
-
-// The bound of each count.
-const MOST: u32 = 4294967295;
+ghost use Rattle.barrier.specs.Counts.{barrierOf, HandsBack};
 
 // The counts of an absent barrier are taken as zero, whatever the array holds.
 pub struct WriteBarrier {
@@ -53,7 +50,7 @@ impl WriteBarrier {
 
     // A value of the generation `own` counted in: only a pointer to the other heap counts.
     pub fn count_in(mut self, own: u8, v: Value) -> Counted
-        ensures { λ r. ⌜ counted r ≡ countIn own (valueCell v) (barrierOf self) ⌝ }
+        ensures { λ r. ⌜ HandsBack (countIn own (valueCell v) (barrierOf self)) (barrierOf self) r ⌝ }
     {
         let Value::Pointer(p) = v else {
             return Counted {
@@ -74,7 +71,8 @@ impl WriteBarrier {
         }
         let at = WriteBarrier::place(p.base);
         let n = self.counts[at];
-        if MOST <= n {
+        // The bound of each count is the greatest number of its type.
+        if u32::MAX <= n {
             return Counted {
                 answer: Counting::Refused(11),
                 barrier: self,
@@ -89,7 +87,7 @@ impl WriteBarrier {
 
     // The same counted out; an absent barrier stays absent.
     pub fn count_out(mut self, own: u8, v: Value) -> Counted
-        ensures { λ r. ⌜ counted r ≡ countOut own (valueCell v) (barrierOf self) ⌝ }
+        ensures { λ r. ⌜ HandsBack (countOut own (valueCell v) (barrierOf self)) (barrierOf self) r ⌝ }
     {
         let Value::Pointer(p) = v else {
             return Counted {

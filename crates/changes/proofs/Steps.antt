@@ -6,7 +6,7 @@ use lib.IntN.{ℤ, pos}
 use mir.Syntax.{w64}
 use mir.Val.{Fits, toZ}
 use mir.ValLaws.{ofZ-toZ}
-use Rattle.model.specs.Res.{Res, ok, _>>=_}
+use Rattle.model.specs.Res.{Res, ok, refuse, _>>=_}
 use Rattle.model.specs.Records.{Cell, ref, whole}
 use Rattle.model.specs.Barrier.{Barrier, countIn, countOut}
 use Rattle.model.specs.Collector.{movedTo}
@@ -22,7 +22,7 @@ module _ (m : Res Barrier) (f : Barrier → Res Barrier) (c : Counted) (e : coun
   then-done : c .answer ≡ Done → f (barrierOf (c .barrier)) ≡ (m >>= f)
   then-done d = rw (← e, d)
 
-  then-refused : (q : ℕ) → c .answer ≡ Refused q → counted c ≡ (m >>= f)
+  then-refused : (q : ℕ) → c .answer ≡ Refused q → refuse q ≡ (m >>= f)
   then-refused q d = rw (← e, d)
 
 -- one change: x is the offset's i64
@@ -35,13 +35,13 @@ module _ (own base offset new : ℕ) (x : ℤ) (b : Barrier) (s : Fits w64 offse
     out : counted c ≡ countOut own (ref (moveOf base offset new .0)) b
     out = e ∙ ap (λ (v : Cell). countOut own v b) was-cell
 
-    pub change-refused : (q : ℕ) → c .answer ≡ Refused q → counted c ≡ countChange own (moveOf base offset new) b
+    pub change-refused : (q : ℕ) → c .answer ≡ Refused q → refuse q ≡ countChange own (moveOf base offset new) b
     unfolding countChange
     change-refused q d = then-refused _ _ c out q d
 
-    pub change-done : c .answer ≡ Done → (r : Counted) → counted r ≡ countIn own (valueCell (PointerV (record { heap = 1; base = new; offset = pos 0 }))) (barrierOf (c .barrier)) → counted r ≡ countChange own (moveOf base offset new) b
+    pub change-in : c .answer ≡ Done → countIn own (valueCell (PointerV (record { heap = 1; base = new; offset = pos 0 }))) (barrierOf (c .barrier)) ≡ countChange own (moveOf base offset new) b
     unfolding countChange valueCell movedTo whole
-    change-done d r i = i ∙ then-done _ (countIn own (ref (movedTo (moveOf base offset new)))) c out d
+    change-in d = then-done _ (countIn own (ref (movedTo (moveOf base offset new)))) c out d
 
 -- a step of several: n are left, and lead to z
 module _ (n : ℕ) (f : Barrier → Res Barrier) (b : Barrier) (z : Res Barrier) (left : times n f b ≡ z) where
@@ -57,5 +57,5 @@ module _ (n : ℕ) (f : Barrier → Res Barrier) (b : Barrier) (z : Res Barrier)
     pub times-less : c .answer ≡ Done → times (n - 1) f (barrierOf (c .barrier)) ≡ z
     times-less d = then-done _ (times (n - 1) f) c e d ∙ parted
 
-    pub times-refused : (q : ℕ) → c .answer ≡ Refused q → counted c ≡ z
+    pub times-refused : (q : ℕ) → c .answer ≡ Refused q → refuse q ≡ z
     times-refused q d = then-refused _ (times (n - 1) f) c e q d ∙ parted

@@ -6,12 +6,12 @@ use barrier::WriteBarrier;
 use value::Pointer;
 use value::Value;
 ghost use mathlib.Core.Path.{_≡_};
-ghost use Rattle.barrier.specs.Counts.{barrierOf, counted};
+ghost use Rattle.barrier.specs.Counts.{barrierOf, HandsBack};
 ghost use Rattle.changes.specs.Changes.{times, moveOf, countChange};
 
 // One such cell: (0, base, offset) out, then (1, new, 0) in.
 pub fn count_change(own: u8, base: u64, offset: u64, new: u64, barrier: WriteBarrier) -> Counted
-    ensures { λ r. ⌜ counted r ≡ countChange own (moveOf base offset new) (barrierOf barrier) ⌝ }
+    ensures { λ r. ⌜ HandsBack (countChange own (moveOf base offset new) (barrierOf barrier)) (barrierOf barrier) r ⌝ }
 {
     let o = value::signed(offset);
     let was = Pointer {
@@ -30,7 +30,12 @@ pub fn count_change(own: u8, base: u64, offset: u64, new: u64, barrier: WriteBar
         base: new,
         offset: 0,
     };
-    b.count_in(own, Value::Pointer(is))
+    let d = b.count_in(own, Value::Pointer(is));
+    let answer = d.answer;
+    let Counting::Done = answer else {
+        return Counted { answer, barrier };
+    };
+    d
 }
 
 // All k of them; the first refusal ends it.
@@ -42,7 +47,7 @@ pub fn count_changes(
     new: u64,
     barrier: WriteBarrier,
 ) -> Counted
-    ensures { λ r. ⌜ counted r ≡ times k (countChange own (moveOf base offset new)) (barrierOf barrier) ⌝ }
+    ensures { λ r. ⌜ HandsBack (times k (countChange own (moveOf base offset new)) (barrierOf barrier)) (barrierOf barrier) r ⌝ }
 {
     let mut b = barrier;
     let mut left = k;
@@ -50,7 +55,7 @@ pub fn count_changes(
         let c = count_change(own, base, offset, new, b);
         let a = c.answer;
         let Counting::Done = a else {
-            return c;
+            return Counted { answer: a, barrier };
         };
         let next = c.barrier;
         b = next;

@@ -139,9 +139,9 @@ module _ {ps : List Ptr} {ls ws : List ℕ} {ss : List (List Cell)} {z₀ z : Ba
       pub left-turn : c .answer ≡ Done → Left ps ls ws ss z₀ (b + 1) (at + 3 * getD ls b 0) (barrierOf (c .barrier))
       left-turn done = goes-on (counted-out ∙ rw done)
 
-      pub left-refused : (q : ℕ) → c .answer ≡ Refused q → counted c ≡ countDropped ps 0 ss z₀
+      pub left-refused : (q : ℕ) → c .answer ≡ Refused q → refuse q ≡ countDropped ps 0 ss z₀
       left-refused q refused =
           let no : slotOut ps b (cellsIn part) z ≡ refuse q = counted-out ∙ rw refused in
-          rw refused (rw no at next)
+          rw no at next
 
-pub ruleset laws = (left-begin, left-done, left-end, left-fits, left-fits-3, left-whole)
+pub ruleset laws = (left-begin, left-end, left-fits, left-fits-3, left-whole)

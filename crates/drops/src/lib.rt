@@ -9,7 +9,7 @@ ghost use Prim.Native.Nat.{_*_, _≤_};
 ghost use lib.ListN.{length};
 ghost use Rattle.model.specs.Records.{wholeCells};
 ghost use Rattle.model.specs.Elder.{keeps, countDropped};
-ghost use Rattle.barrier.specs.Counts.{barrierOf, counted, anyCrossing};
+ghost use Rattle.barrier.specs.Counts.{barrierOf, HandsBack, anyCrossing};
 ghost use Rattle.trace.specs.Words.{members};
 ghost use Rattle.slots.specs.Slots.{Packed, slotsOf};
 
@@ -34,7 +34,7 @@ pub fn count_dropped(
 ) -> Counted
     requires { ⌜ Packed (now lens) (now cells) (slotsOf (now lens) (now cells)) ⌝ }
     requires { ⌜ 3 * count ≤ length (now list) ⌝ }
-    ensures { λ r. ⌜ counted r ≡ countDropped (members count (now (list .entry))) 0 (slotsOf (now (lens .entry)) (now (cells .entry))) (barrierOf barrier) ⌝ }
+    ensures { λ r. ⌜ HandsBack (countDropped (members count (now (list .entry))) 0 (slotsOf (now (lens .entry)) (now (cells .entry))) (barrierOf barrier)) (barrierOf barrier) r ⌝ }
 {
     let mut bar = barrier;
     let mut at: usize = 0;
@@ -45,7 +45,7 @@ pub fn count_dropped(
             let c = cells::count_cells_out(&cells[at..end], 1, bar);
             let a = c.answer;
             let Counting::Done = a else {
-                return c;
+                return Counted { answer: a, barrier };
             };
             let next = c.barrier;
             bar = next;

@@ -4,6 +4,7 @@ use barrier::Counted;
 use barrier::Counting;
 use barrier::WriteBarrier;
 use barrier::cells;
+use image::counts::MOST;
 use layout::Fit;
 use layout::places;
 ghost use mathlib.Core.Path.{_≡_};
@@ -23,9 +24,6 @@ ghost use Rattle.barrier.specs.Counts.{barrierOf, counted, countingAnswer};
 ghost use Rattle.trace.specs.Words.{members};
 ghost use Rattle.fields.specs.Fields.{Reads, Turns, onOld};
 ghost use Rattle.elder.specs.Steps.{Listed, swept, sweptAnswer, placedAnswer, collectStep, countStep, placeStep, blankStep};
-
-// The bound of the collections counter.
-const MOST: u64 = 4294967295;
 
 // The visits, or the number of the question that got a no.
 pub enum Swept {

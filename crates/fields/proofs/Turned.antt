@@ -1,6 +1,6 @@
 -- The image after each operation is that of the heap which the model's step leaves.
 use mathlib.Core.Path.{_≡_, refl, sym, ap, _∙_}
-use mathlib.Core.Bool.{true}
+use mathlib.Core.Bool.{Bool, true, false, true≢false}
 use mathlib.Core.Logic.{⊎-elim}
 use mathlib.Core.List.{List, [], _∷_}
 use Prim.Native.Nat.{ℕ, zero, suc, _+_, _-_, _*_, _≤_, _<_}
@@ -12,7 +12,7 @@ use lib.Seq.{paste}
 use borrow.Rule.Slice.PartMut.{putMid, set-mid-at}
 use Rattle.model.specs.Lists.{flat}
 use Rattle.model.specs.Records.{Cell, blank, cellWords, valid, allValid, wholeCells}
-use Rattle.model.specs.Barrier.{Barrier, absent, cache, most, counts}
+use Rattle.model.specs.Barrier.{Barrier, absent, present, cache, most, counts}
 use Rattle.model.specs.Heap.{Nursery, Elder, Heap, fresh}
 use Rattle.model.specs.Image.{flag, barrier, encode, decode, flagged}
 use Rattle.model.specs.Nursery.{bump, emptied}
@@ -22,6 +22,7 @@ use Rattle.theorems.proofs.Lists.{and-left}
 use Rattle.theorems.proofs.Cells.{kindWord, payloadWord, offsetWord, words-cons, words-length, cell-words, cell-valid}
 use Rattle.theorems.proofs.Contents.{cell-set-from, valid-all, all-valid}
 use Rattle.theorems.proofs.Tiles.{zeros-tiled}
+use Rattle.theorems.proofs.Barrier.{absent-fit}
 use Rattle.theorems.proofs.Regions.{barrier-back, fit-flagged}
 use Rattle.theorems.proofs.Image.{fresh-fit, image-decode}
 use Rattle.theorems.proofs.Parts.{header, partsOf, encode-parts}
@@ -29,7 +30,7 @@ use Rattle.theorems.proofs.Collect.{bump-fit}
 use Rattle.words.specs.Words.{padded}
 use Rattle.value.specs.declared.Words.{Words}
 use Rattle.image.specs.Places.{sizeN, youngCountsAt, oldCountsAt, lengthsAt, slotLengthsAt, youngCellsAt, oldCellsAt}
-use Rattle.fields.specs.Fields.{Reads, Turns, onYoung, onOld, withBar, withOldBar, withCell, restarted, collectedOnce, cellIn, wordsOf, YoungCells, CellAt}
+use Rattle.fields.specs.Fields.{Reads, Turns, onYoung, onOld, withBar, withOldBar, barOf, isPresent, withCell, restarted, collectedOnce, cellIn, wordsOf, YoungCells, CellAt}
 use Rattle.fields.specs.declared.Part.{Part}
 use Rattle.fields.proofs.Parts.{decoded, sized-in, n-is, n-read, s-read, young-counts-put, old-counts-put, lengths-put, young-cells-put, young-counts, old-counts, lengths, young-cells}
 
@@ -225,10 +226,26 @@ restart-turns {w} {ys} {n} {to} {colls} {proms} r e k l q = record {
       };
 }
 
-pub emptied-turns : {w u v : List ℕ} {b : Barrier} {colls proms : ℕ} (visits : ℕ) → Reads (λ h. h .young .colls) w colls → Reads (λ h. h .young .proms) w proms → b ≡ absent
-    → Turns (onYoung (withBar b)) w u → Turns (onYoung (restarted (colls + 1) (proms + visits))) u v → Turns (onYoung (λ y. emptied y visits)) w v
+-- the nursery's barrier absent: it was, or it is put there
+pub absent-stays : {w : List ℕ} {r : Bool} → Reads (λ h. isPresent (barOf 0 h)) w r → r ≡ false → Turns (onYoung (withBar absent)) w w
+unfolding barOf isPresent withYoung withBar
+absent-stays {w} p e = record { turns = λ h i. go h i (h .young .bar) refl (p .reads h i ∙ e) }
+  where
+    go : (h : Heap) → Image w h → (b : Barrier) → h .young .bar ≡ b → isPresent b ≡ false → Image w (onYoung (withBar absent) h)
+    go h i absent is not = rw (← is) i
+    go h i (present cs) is not = absurd (true≢false not)
+
+module _ {b : Barrier} (e : b ≡ absent) where
+  pub absent-fits : FitBarrier b
+  absent-fits = rw e absent-fit
+
+  pub absent-put : {w v : List ℕ} → Turns (onYoung (withBar b)) w v → Turns (onYoung (withBar absent)) w v
+  absent-put t = rw e at t
+
+pub emptied-turns : {w u v : List ℕ} {colls proms : ℕ} (visits : ℕ) → Reads (λ h. h .young .colls) w colls → Reads (λ h. h .young .proms) w proms
+    → Turns (onYoung (withBar absent)) w u → Turns (onYoung (restarted (colls + 1) (proms + visits))) u v → Turns (onYoung (λ y. emptied y visits)) w v
 unfolding withYoung withBar restarted emptied
-emptied-turns visits k l e s t = record { turns = λ h i. rw (e, add-one, ← k .reads h i, ← l .reads h i) at (t .turns _ (s .turns h i)) }
+emptied-turns visits k l s t = record { turns = λ h i. rw (add-one, ← k .reads h i, ← l .reads h i) at (t .turns _ (s .turns h i)) }
 
 -- the elder's collections
 pub counted-turns : {w : List ℕ} {k : ℕ} → Reads (λ h. h .old .colls) w k → decode w .old .colls < most → Turns (onOld collectedOnce) w (set w 7 (k + 1))

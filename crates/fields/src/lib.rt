@@ -9,7 +9,7 @@ ghost use mathlib.Core.List.{[], _∷_};
 ghost use Prim.Native.Nat.{_+_, _-_, _*_, _<_, _≤_};
 ghost use lib.ListN.{length, getD};
 ghost use Rattle.model.specs.Records.{blank, cellWords, wholeCells};
-ghost use Rattle.model.specs.Barrier.{most, count};
+ghost use Rattle.model.specs.Barrier.{absent, most, count};
 ghost use Rattle.model.specs.Image.{decode};
 ghost use Rattle.model.specs.Nursery.{bump, emptied};
 ghost use Rattle.theorems.specs.Fit.{FitBarrier, Image};
@@ -234,6 +234,18 @@ fn restart(image: &mut [u64], collections: u64, promotions: u64)
     image[layout::PROMOTIONS] = promotions;
 }
 
+// An absent barrier has only zero counts already, so nothing is stored.
+fn clear_young_barrier(image: &mut [u64])
+    requires { ⌜ Image (now image) (decode (now image)) ⌝ }
+    ensures { λ _. ⌜ Turns (onYoung (withBar absent)) (now (image .entry)) (now (image .exit)) ⌝ }
+{
+    if is_present(image, 0) {
+        let b = young_barrier(image);
+        let cleared = b.clear();
+        put_young_barrier(image, cleared);
+    }
+}
+
 // The nursery after a collection of so many members.
 pub fn empty_nursery(image: &mut [u64], visits: u64)
     requires { ⌜ Image (now image) (decode (now image)) ⌝ }
@@ -242,7 +254,7 @@ pub fn empty_nursery(image: &mut [u64], visits: u64)
 {
     let collections = young_collections(image) + 1;
     let moved = promotions(image) + visits;
-    put_young_barrier(image, WriteBarrier::new());
+    clear_young_barrier(image);
     restart(image, collections, moved);
 }
 

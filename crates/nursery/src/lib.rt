@@ -1,4 +1,5 @@
 // The nursery's steps on an image: does an amount fit, a collection, the part that a promoted allocation occupies.
+use image::counts::MOST;
 use layout::places;
 ghost use mathlib.Core.Path.{_≡_};
 ghost use Prim.Native.Nat.{ℕ, _+_, _-_, _*_, _/_, _≤_, _<_};
@@ -14,9 +15,6 @@ ghost use Rattle.theorems.specs.Does.{Does};
 ghost use Rattle.trace.specs.Words.{members};
 ghost use Rattle.fields.specs.Fields.{Reads};
 ghost use Rattle.nursery.specs.Steps.{Listed, collectedAnswer, collectStep};
-
-// The bound of the counters.
-const MOST: u64 = 4294967295;
 
 // The visits and the number of survivors, or the number of the question that got a no.
 pub enum Collected {

@@ -2,17 +2,18 @@ use borrow.Author.Needs.{needs}
 use mathlib.Core.Path.{_≡_, refl}
 use native.Mathlib.Omega.{arith}
 use Rattle.barrier.specs.Counts.{barrierOf}
+use Rattle.barrier.proofs.Handing.{hands-done, hands-refused}
 use Rattle.changes.specs.Changes.{times, moveOf, countChange}
 use Rattle.changes.proofs.Steps.{times-none, times-less, times-refused}
 use Rattle.changes.proofs.count_changes.Statement.{statement}
 use Rattle.changes.proofs.count_changes.Tie as tie
 
 abbrev Inv-loop : tie.InvT-loop
-Inv-loop k own base offset new b₀ left₀ b left =
-    times left (countChange own (moveOf base offset new)) (barrierOf b) ≡ times k (countChange own (moveOf base offset new)) (barrierOf b₀)
+Inv-loop k own base offset new barrier b₀ left₀ b left =
+    times left (countChange own (moveOf base offset new)) (barrierOf b) ≡ times k (countChange own (moveOf base offset new)) (barrierOf barrier)
 
 abbrev μ-loop : tie.MeasureT-loop
-μ-loop k own base offset new b₀ left₀ b left = left
+μ-loop k own base offset new barrier b₀ left₀ b left = left
 
 loop-holds : tie.Need-loop-holds Inv-loop μ-loop
 loop-holds c = refl
@@ -30,7 +31,8 @@ returns : tie.Need-returns Inv-loop μ-loop
 returns c =
     let t = c .before .before .before in
     let s = c .before .before .count-change in
-    times-refused _ _ _ _ (t .before .loop .inv) (omega arith) (s .result) (s .ensures) (c .enum-told2 .given .0 .0) (c .enum-told2 .given .1)
+    let no = times-refused _ _ _ _ (t .before .loop .inv) (omega arith) (s .result) (s .ensures .counted) (c .enum-told2 .given .0 .0) (c .enum-told2 .given .1) in
+    hands-refused _ (c .enum-told2 .given .1) refl no
 
 sub-left : tie.Need-sub-left Inv-loop μ-loop
 sub-left c = search needs
@@ -42,10 +44,10 @@ loop-again : tie.Need-loop-again Inv-loop μ-loop
 loop-again c =
     let t = c .before .before .before .before in
     let s = c .before .before .before .count-change in
-    times-less _ _ _ _ (t .before .loop .inv) (omega arith) (s .result) (s .ensures) (c .before .enum-told .given .1)
+    times-less _ _ _ _ (t .before .loop .inv) (omega arith) (s .result) (s .ensures .counted) (c .before .enum-told .given .1)
 
 returns-2 : tie.Need-returns-2 Inv-loop μ-loop
-returns-2 c = times-none _ _ _ _ (c .before .loop .inv) (omega arith)
+returns-2 c = hands-done _ refl (times-none _ _ _ _ (c .before .loop .inv) (omega arith))
 
 pub count-changes-spec : {M : Type 1} → statement M
 count-changes-spec =

@@ -1,20 +1,21 @@
 use borrow.Author.Needs.{needs}
 use mathlib.Core.Logic.{⊎-elim}
-use mathlib.Core.Path.{sym, _∙_}
+use mathlib.Core.Path.{refl, sym, _∙_}
 use Prim.Native.Nat.{_-_}
 use lib.ListN.{length}
 use Rattle.barrier.specs.Counts.{barrierOf}
+use Rattle.barrier.proofs.Handing.{hands-done, hands-refused}
 use Rattle.trace.specs.Words.{members}
 use Rattle.slots.specs.Slots.{slotsOf}
-use Rattle.drops.proofs.Drops.{Left, laws, left-start, left-stays, left-turn, left-refused}
+use Rattle.drops.proofs.Drops.{Left, laws, left-start, left-done, left-stays, left-turn, left-refused}
 use Rattle.drops.proofs.count_dropped.Statement.{statement}
 use Rattle.drops.proofs.count_dropped.Tie as tie
 
 abbrev Inv-loop : tie.InvT-loop
-Inv-loop lens cells list count bar₀ at₀ b₀ bar at b = Left (members count list) lens cells (slotsOf lens cells) (barrierOf bar₀) b at (barrierOf bar)
+Inv-loop lens cells list count barrier bar₀ at₀ b₀ bar at b = Left (members count list) lens cells (slotsOf lens cells) (barrierOf barrier) b at (barrierOf bar)
 
 abbrev μ-loop : tie.MeasureT-loop
-μ-loop lens cells list count bar₀ at₀ b₀ bar at b = length lens - b
+μ-loop lens cells list count barrier bar₀ at₀ b₀ bar at b = length lens - b
 
 loop-holds : tie.Need-loop-holds Inv-loop μ-loop
 loop-holds c = search (laws, needs)
@@ -78,7 +79,9 @@ returns c =
     let s = c .before .before .count-cells-out in
     let i = c .before .before .before .before in
     let t = i .before .before .before .before in
-    left-refused (t .before .loop .inv) (t .loop-test .taken) (s .result) (sym (i .before .is-counted .ensures) ∙ i .if1 .taken) (s .ensures) (c .enum-told2 .given .0 .0) (c .enum-told2 .given .1)
+    let told = c .enum-told2 .given in
+    let no = left-refused (t .before .loop .inv) (t .loop-test .taken) (s .result) (sym (i .before .is-counted .ensures) ∙ i .if1 .taken) (s .ensures .counted) (told .0 .0) (told .1) in
+    hands-refused _ (told .1) refl no
 
 add-b : tie.Need-add-b Inv-loop μ-loop
 add-b c = search needs
@@ -91,12 +94,12 @@ loop-again c =
     let t = c .before .before .before .before in
     let told = c .before .is-counted .ensures in
     ⊎-elim
-    (λ w. rw (w .6) (left-turn (t .before .loop .inv) (t .loop-test .taken) (w .2 .result) (sym told ∙ w .0 .taken) (w .2 .ensures) (w .4 .given .1)))
+    (λ w. rw (w .6) (left-turn (t .before .loop .inv) (t .loop-test .taken) (w .2 .result) (sym told ∙ w .0 .taken) (w .2 .ensures .counted) (w .4 .given .1)))
     (λ w. rw (w .1) (left-stays (t .before .loop .inv) (t .loop-test .taken) (sym told ∙ w .0 .left)))
     (c .if1 .came)
 
 returns-2 : tie.Need-returns-2 Inv-loop μ-loop
-returns-2 c = search (laws, needs)
+returns-2 c = hands-done _ refl (left-done (c .before .loop .inv) (c .loop-test .left))
 
 pub count-dropped-spec : {M : Type 1} → statement M
 count-dropped-spec =

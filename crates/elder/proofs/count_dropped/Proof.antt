@@ -40,7 +40,7 @@ count-dropped-requires c κs = (parts-formed (c .before .before .before .before 
 returns : tie.Need-returns
 returns c =
     let s = c .before .before .before .before .before .before .before in
-    dropped-read (c .before .before .before .before .layout-of .ensures) (s .args .count) (s .args .list .now) (c .before .before .before .old-barrier .ensures) (c .count-dropped .ensures)
+    dropped-read (c .before .before .before .before .layout-of .ensures) (s .args .count) (s .args .list .now) (c .before .before .before .old-barrier .ensures) (c .count-dropped .ensures .counted)
 
 pub count-dropped-spec : {M : Type 1} → statement M
 count-dropped-spec =

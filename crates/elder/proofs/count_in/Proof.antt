@@ -25,7 +25,7 @@ put-old-barrier-requires : tie.Need-put-old-barrier-requires
 put-old-barrier-requires c κs =
     let s = c .before .before .before .before .before .before .before .before .before .before .before in
     let m = c .before .before .before .before in
-    (s .pre .0, count-fit (cellsIn (s .args .src .now)) (m .before .old-barrier .ensures) (m .count-cells-in .result) (m .count-cells-in .ensures) (c .before .before .enum-told .given .1) (s .pre .0))
+    (s .pre .0, count-fit (cellsIn (s .args .src .now)) (m .before .old-barrier .ensures) (m .count-cells-in .result) (m .count-cells-in .ensures .counted) (c .before .before .enum-told .given .1) (s .pre .0))
 
 enum-known-a : tie.Need-enum-known-a
 enum-known-a c = search needs
@@ -36,7 +36,7 @@ same-length c = search needs
 returns-2 : tie.Need-returns-2
 returns-2 c =
     let m = c .before .before .before .before .before .before .before in
-    count-done _ (m .before .old-barrier .ensures) (m .count-cells-in .result) (m .count-cells-in .ensures) (c .before .before .before .before .before .enum-told .given .1) (c .before .before .put-old-barrier .ensures)
+    count-done _ (m .before .old-barrier .ensures) (m .count-cells-in .result) (m .count-cells-in .ensures .counted) (c .before .before .before .before .before .enum-told .given .1) (c .before .before .put-old-barrier .ensures)
 
 same-length-2 : tie.Need-same-length-2
 same-length-2 c = search needs
@@ -44,7 +44,7 @@ same-length-2 c = search needs
 returns-3 : tie.Need-returns-3
 returns-3 c =
     let m = c .before .before .before in
-    count-refused _ (m .before .old-barrier .ensures) (m .count-cells-in .result) (m .count-cells-in .ensures) _ (c .before .a .given .1)
+    count-refused _ (m .before .old-barrier .ensures) (m .count-cells-in .result) (m .count-cells-in .ensures .counted) _ (c .before .a .given .1)
 
 pub count-in-spec : {M : Type 1} → statement M
 count-in-spec =

@@ -1,6 +1,5 @@
 use borrow.Author.Needs.{needs}
 use native.Mathlib.Omega.{arith}
-use Rattle.theorems.proofs.Barrier.{absent-fit}
 use Rattle.fields.proofs.Parts.{most-is}
 use Rattle.fields.proofs.Turned.{next-image, emptied-turns}
 use Rattle.fields.proofs.empty_nursery.Statement.{statement}
@@ -24,27 +23,24 @@ add-moved c =
     let promotions = c .promotions .ensures in
     omega (arith, most-is, pre .1 .1, promotions .reads _ (pre .0))
 
-new-requires : tie.Need-new-requires
-new-requires c κs = search needs
-
-put-young-barrier-requires : tie.Need-put-young-barrier-requires
-put-young-barrier-requires c κs = (c .before .before .before .before .before .before .before .pre .0, rw (c .new .ensures) absent-fit)
+clear-young-barrier-requires : tie.Need-clear-young-barrier-requires
+clear-young-barrier-requires c κs = search needs
 
 restart-requires : tie.Need-restart-requires
 restart-requires c κs =
-    let pre = c .before .before .before .before .before .before .before .before .before .before .before .pre in
-    let collections = c .before .before .before .before .before .before .before .before .young-collections .ensures in
-    let promotions = c .before .before .before .before .before .before .promotions .ensures in
-    (next-image (c .before .before .before .put-young-barrier .ensures) (pre .0), (omega (arith, pre .1 .0, collections .reads _ (pre .0)), omega (arith, pre .1 .1, promotions .reads _ (pre .0))))
+    let pre = c .before .before .before .before .before .before .before .before .before .before .pre in
+    let collections = c .before .before .before .before .before .before .before .young-collections .ensures in
+    let promotions = c .before .before .before .before .before .promotions .ensures in
+    (next-image (c .before .before .before .clear-young-barrier .ensures) (pre .0), (omega (arith, pre .1 .0, collections .reads _ (pre .0)), omega (arith, pre .1 .1, promotions .reads _ (pre .0))))
 
 same-length : tie.Need-same-length
 same-length c = search needs
 
 returns : tie.Need-returns
 returns c =
-    let collections = c .before .before .before .before .before .before .before .before .before .before .before .young-collections .ensures in
-    let promotions = c .before .before .before .before .before .before .before .before .before .promotions .ensures in
-    emptied-turns _ collections promotions (c .before .before .before .before .before .before .before .new .ensures) (c .before .before .before .before .before .before .put-young-barrier .ensures) (c .before .before .restart .ensures)
+    let collections = c .before .before .before .before .before .before .before .before .before .before .young-collections .ensures in
+    let promotions = c .before .before .before .before .before .before .before .before .promotions .ensures in
+    emptied-turns _ collections promotions (c .before .before .before .before .before .before .clear-young-barrier .ensures) (c .before .before .restart .ensures)
 
 pub empty-nursery-spec : {M : Type 1} → statement M
 empty-nursery-spec =
@@ -54,8 +50,7 @@ empty-nursery-spec =
     add-collections
     promotions-requires
     add-moved
-    new-requires
-    put-young-barrier-requires
+    clear-young-barrier-requires
     restart-requires
     same-length
     returns)

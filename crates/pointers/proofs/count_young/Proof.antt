@@ -24,7 +24,7 @@ put-young-barrier-requires : tie.Need-put-young-barrier-requires
 put-young-barrier-requires c κs =
     let n = c .before .before .before .before in
     let s = n .before .before .before .before .before in
-    let fit = count-fit 0 _ (λ b h. onYoung (withBar b) h) (λ h. h .young .bar) _ (n .count-changes .result) (n .before .young-barrier .ensures) (n .count-changes .ensures)
+    let fit = count-fit 0 _ (λ b h. onYoung (withBar b) h) (λ h. h .young .bar) _ (n .count-changes .result) (n .before .young-barrier .ensures) (n .count-changes .ensures .counted)
     (s .pre) (s .pre .fit .young .bar) (c .before .before .enum-told .given .1) in
     (s .pre, fit)
 
@@ -39,7 +39,7 @@ unfolding countYoung
 returns-2 c =
     let t = c .before .before .before .before .before in
     let n = t .before .before in
-    count-done 0 _ (λ b h. onYoung (withBar b) h) (λ h. h .young .bar) _ (n .count-changes .result) (n .before .young-barrier .ensures) (n .count-changes .ensures)
+    count-done 0 _ (λ b h. onYoung (withBar b) h) (λ h. h .young .bar) _ (n .count-changes .result) (n .before .young-barrier .ensures) (n .count-changes .ensures .counted)
     (t .enum-told .given .1) (c .before .before .put-young-barrier .ensures)
 
 same-length-2 : tie.Need-same-length-2
@@ -49,7 +49,7 @@ returns-3 : tie.Need-returns-3
 unfolding countYoung
 returns-3 c =
     let n = c .before .before .before in
-    count-refused 0 _ (λ b h. onYoung (withBar b) h) (λ h. h .young .bar) _ (n .count-changes .result) (n .before .young-barrier .ensures) (n .count-changes .ensures) _ (c .before .a .given .1)
+    count-refused 0 _ (λ b h. onYoung (withBar b) h) (λ h. h .young .bar) _ (n .count-changes .result) (n .before .young-barrier .ensures) (n .count-changes .ensures .counted) _ (c .before .a .given .1)
 
 pub count-young-spec : {M : Type 1} → statement M
 count-young-spec =

@@ -1,9 +1,11 @@
 use borrow.Author.Needs.{needs}
 use borrow.Author.Tests.{not-true, not-false}
-use mathlib.Core.Path.{_∙_}
+use mathlib.Core.Path.{refl, _∙_}
 use mathlib.Core.Logic.{⊎-elim}
+use native.Mathlib.Omega.{arith}
 use Rattle.barrier.specs.Counts.{barrierOf}
-use Rattle.barrier.proofs.Steps.{steps-in, step-plain, step-own, step-other, Opened, opened-absent, opened-present, up-full, up-more}
+use Rattle.barrier.proofs.Steps.{steps-in, step-plain, step-own, step-other, Opened, opened-absent, opened-present, full-back, up-full, up-more}
+use Rattle.barrier.proofs.Handing.{hands-done, hands-refused}
 use Rattle.barrier.proofs.WriteBarrier.count_in.Statement.{statement}
 use Rattle.barrier.proofs.WriteBarrier.count_in.Tie as tie
 
@@ -13,13 +15,13 @@ enum-known-v c = search needs
 returns : tie.Need-returns
 returns c =
     let a = c .before .args in
-    step-plain (steps-in (a .own)) (barrierOf (a .t1)) (a .v) (c .match .keys2)
+    hands-done _ refl (step-plain (steps-in (a .own)) (barrierOf (a .t1)) (a .v) (c .match .keys2))
 
 returns-2 : tie.Need-returns-2
 returns-2 c =
     let a = c .before .before .before .before .before .args in
     let v = c .before .before .before .v .given in
-    step-own (steps-in (a .own)) (barrierOf (a .t1)) (a .v) (v .0 .0) (v .1) (c .if1 .taken)
+    hands-done _ refl (step-own (steps-in (a .own)) (barrierOf (a .t1)) (a .v) (v .0 .0) (v .1) (c .if1 .taken))
 
 place-requires : tie.Need-place-requires
 place-requires c κs = search needs
@@ -42,8 +44,10 @@ returns-3 c =
     let v = c .before .before .before .before .before .before .before .v .given in
     let k = c .before .before .place in
     let j = c .before .before .before in
-    up-full (a .t1) (j .if2 .self) (opened j) (k .result) (c .if3 .taken)
-    ∙ step-other (steps-in (a .own)) (barrierOf (a .t1)) (a .v) (v .0 .0) (v .1) (c .before .before .before .before .if1 .left) (k .result) (k .ensures)
+    hands-refused (j .if2 .self) refl
+    (full-back (a .t1) (j .if2 .self) (opened j) (k .result) (omega (arith, k .ensures)) (c .if3 .taken))
+    (up-full (a .t1) (j .if2 .self) (opened j) (k .result) (c .if3 .taken)
+    ∙ step-other (steps-in (a .own)) (barrierOf (a .t1)) (a .v) (v .0 .0) (v .1) (c .before .before .before .before .if1 .left) (k .result) (k .ensures))
 
 add-self : tie.Need-add-self
 add-self c = search needs
@@ -60,8 +64,9 @@ returns-4 c =
     let v = c .before .before .before .before .before .before .before .v .given in
     let k = c .before .before .place in
     let j = c .before .before .before in
-    up-more (a .t1) (j .if2 .self) (opened j) (k .result) (c .if3 .left)
-    ∙ step-other (steps-in (a .own)) (barrierOf (a .t1)) (a .v) (v .0 .0) (v .1) (c .before .before .before .before .if1 .left) (k .result) (k .ensures)
+    hands-done _ refl
+    (up-more (a .t1) (j .if2 .self) (opened j) (k .result) (c .if3 .left)
+    ∙ step-other (steps-in (a .own)) (barrierOf (a .t1)) (a .v) (v .0 .0) (v .1) (c .before .before .before .before .if1 .left) (k .result) (k .ensures))
 
 pub count-in-spec : {M : Type 1} → statement M
 count-in-spec =

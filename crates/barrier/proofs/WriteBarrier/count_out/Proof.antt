@@ -4,6 +4,7 @@ use mathlib.Core.Path.{refl, _∙_}
 use mathlib.Core.Logic.{⊎-elim}
 use Rattle.barrier.specs.Counts.{barrierOf}
 use Rattle.barrier.proofs.Steps.{steps-out, step-plain, step-own, step-other, down-absent, down-none, down-less}
+use Rattle.barrier.proofs.Handing.{hands-done, hands-refused}
 use Rattle.barrier.proofs.WriteBarrier.count_out.Statement.{statement}
 use Rattle.barrier.proofs.WriteBarrier.count_out.Tie as tie
 
@@ -13,16 +14,17 @@ enum-known-v c = search needs
 returns : tie.Need-returns
 returns c =
     let a = c .before .args in
-    step-plain (steps-out (a .own)) (barrierOf (a .t1)) (a .v) (c .match .keys2)
+    hands-done _ refl (step-plain (steps-out (a .own)) (barrierOf (a .t1)) (a .v) (c .match .keys2))
 
 returns-2 : tie.Need-returns-2
 returns-2 c =
     let a = c .before .before .before .before .before .args in
     let v = c .before .before .before .v .given in
-    ⊎-elim
+    hands-done _ refl
+    (⊎-elim
     (λ w. step-own (steps-out (a .own)) (barrierOf (a .t1)) (a .v) (v .0 .0) (v .1) (w .taken))
     (λ w. down-absent (a .t1) _ (not-true _ (w .1 .taken)) ∙ step-other (steps-out (a .own)) (barrierOf (a .t1)) (a .v) (v .0 .0) (v .1) (w .0 .left) _ refl)
-    (c .if1 .came)
+    (c .if1 .came))
 
 place-requires : tie.Need-place-requires
 place-requires c κs = search needs
@@ -38,8 +40,9 @@ returns-3 c =
     let a = c .before .before .before .before .before .before .before .before .before .args in
     let v = c .before .before .before .before .before .before .before .v .given in
     let k = c .before .before .place in
-    down-none (a .t1) (k .result) (not-false _ (c .before .before .before .if2 .left)) (c .if3 .taken)
-    ∙ step-other (steps-out (a .own)) (barrierOf (a .t1)) (a .v) (v .0 .0) (v .1) (c .before .before .before .before .if1 .left) (k .result) (k .ensures)
+    hands-refused _ refl refl
+    (down-none (a .t1) (k .result) (not-false _ (c .before .before .before .if2 .left)) (c .if3 .taken)
+    ∙ step-other (steps-out (a .own)) (barrierOf (a .t1)) (a .v) (v .0 .0) (v .1) (c .before .before .before .before .if1 .left) (k .result) (k .ensures))
 
 sub-self : tie.Need-sub-self
 sub-self c = search needs
@@ -55,8 +58,9 @@ returns-4 c =
     let a = c .before .before .before .before .before .before .before .before .before .args in
     let v = c .before .before .before .before .before .before .before .v .given in
     let k = c .before .before .place in
-    down-less (a .t1) (k .result) (not-false _ (c .before .before .before .if2 .left)) (c .if3 .left)
-    ∙ step-other (steps-out (a .own)) (barrierOf (a .t1)) (a .v) (v .0 .0) (v .1) (c .before .before .before .before .if1 .left) (k .result) (k .ensures)
+    hands-done _ refl
+    (down-less (a .t1) (k .result) (not-false _ (c .before .before .before .if2 .left)) (c .if3 .left)
+    ∙ step-other (steps-out (a .own)) (barrierOf (a .t1)) (a .v) (v .0 .0) (v .1) (c .before .before .before .before .if1 .left) (k .result) (k .ensures))
 
 pub count-out-spec : {M : Type 1} → statement M
 count-out-spec =

@@ -8,10 +8,10 @@ use Rattle.barrier.proofs.cells.any_crosses.Statement.{statement}
 use Rattle.barrier.proofs.cells.any_crosses.Tie as tie
 
 abbrev Inv-loop : tie.InvT-loop
-Inv-loop cells own i₀ i = Seeking own cells i
+Inv-loop cells own at₀ at = Seeking own cells at
 
 abbrev μ-loop : tie.MeasureT-loop
-μ-loop cells own i₀ i = length cells - i
+μ-loop cells own at₀ at = length cells - at
 
 loop-holds : tie.Need-loop-holds Inv-loop μ-loop
 loop-holds c = seek-begin _ _ (c .before .pre)
@@ -30,8 +30,8 @@ returns c =
     let t = c .before .before .before in
     seek-found _ _ (t .before .loop .inv) (t .loop-test .taken) (sym (c .before .crosses .ensures) ∙ c .if1 .taken)
 
-add-i : tie.Need-add-i Inv-loop μ-loop
-add-i c =
+add-at : tie.Need-add-at Inv-loop μ-loop
+add-at c =
     let t = c .before .before .before in
     omega (arith, seek-room _ _ (t .before .loop .inv) (t .loop-test .taken))
 
@@ -57,7 +57,7 @@ any-crosses-spec =
     shared-slice-read-crosses
     crosses-requires
     returns
-    add-i
+    add-at
     loop-less
     loop-again
     returns-2)

@@ -1,21 +1,22 @@
 use borrow.Author.Needs.{needs}
 use mathlib.Core.Logic.{⊎-elim}
-use mathlib.Core.Path.{sym, _∙_}
+use mathlib.Core.Path.{refl, sym, _∙_}
 use Prim.Native.Nat.{_-_}
 use native.Mathlib.Omega.{arith}
 use lib.ListN.{length}
 use Rattle.model.specs.Barrier.{countOut}
 use Rattle.barrier.specs.Counts.{barrierOf}
 use Rattle.barrier.proofs.Steps.{steps-out}
+use Rattle.barrier.proofs.Handing.{hands-done, hands-refused}
 use Rattle.barrier.proofs.Turns.{Left, begin, ended, room, valid-here, turn-skip, turn-done, turn-refused}
 use Rattle.barrier.proofs.cells.count_cells_out.Statement.{statement}
 use Rattle.barrier.proofs.cells.count_cells_out.Tie as tie
 
 abbrev Inv-loop : tie.InvT-loop
-Inv-loop cells own b₀ i₀ b i = Left (countOut own) cells (barrierOf b₀) i (barrierOf b)
+Inv-loop cells own barrier b₀ i₀ b i = Left (countOut own) cells (barrierOf barrier) i (barrierOf b)
 
 abbrev μ-loop : tie.MeasureT-loop
-μ-loop cells own b₀ i₀ b i = length cells - i
+μ-loop cells own barrier b₀ i₀ b i = length cells - i
 
 loop-holds : tie.Need-loop-holds Inv-loop μ-loop
 loop-holds c = begin _ _ _ (c .before .pre)
@@ -49,7 +50,8 @@ returns c =
     let t = c .before .before .before .before .before .before .before in
     let v = c .before .before .before .value-at in
     let s = c .before .before .count-out in
-    turn-refused _ _ _ (t .before .loop .inv) (t .loop-test .taken) (v .result) (s .result) (v .ensures) (s .ensures) (c .enum-told2 .given .0 .0) (c .enum-told2 .given .1)
+    let no = turn-refused _ _ _ (t .before .loop .inv) (t .loop-test .taken) (v .result) (s .result) (v .ensures) (s .ensures .counted) (c .enum-told2 .given .0 .0) (c .enum-told2 .given .1) in
+    hands-refused _ (c .enum-told2 .given .1) refl no
 
 add-i : tie.Need-add-i Inv-loop μ-loop
 add-i c =
@@ -63,12 +65,12 @@ loop-again : tie.Need-loop-again Inv-loop μ-loop
 loop-again c =
     let t = c .before .before .before in
     ⊎-elim
-    (λ w. rw (w .6) (turn-done _ _ _ (t .before .loop .inv) (t .loop-test .taken) (w .1 .result) (w .2 .result) (w .1 .ensures) (w .2 .ensures) (w .4 .given .1)))
+    (λ w. rw (w .6) (turn-done _ _ _ (t .before .loop .inv) (t .loop-test .taken) (w .1 .result) (w .2 .result) (w .1 .ensures) (w .2 .ensures .counted) (w .4 .given .1)))
     (λ w. rw (w .1) (turn-skip _ _ _ (t .before .loop .inv) (t .loop-test .taken) (steps-out _) (sym (c .before .crosses .ensures) ∙ w .0 .left)))
     (c .if1 .came)
 
 returns-2 : tie.Need-returns-2 Inv-loop μ-loop
-returns-2 c = ended _ _ _ (c .before .loop .inv) (c .loop-test .left)
+returns-2 c = hands-done _ refl (ended _ _ _ (c .before .loop .inv) (c .loop-test .left))
 
 pub count-cells-out-spec : {M : Type 1} → statement M
 count-cells-out-spec =
