@@ -1,5 +1,6 @@
 -- Fields: bytes joined to a number. Signs: the signed number of a word. Opcodes: the bytes that are known. Registers: tests of
 -- a command's registers. Places: what stands at a place of a file. Progress: a file read command by command.
+pub mod Walked
 pub mod Fields
 pub mod Signs
 pub mod Opcodes
