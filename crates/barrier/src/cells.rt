@@ -18,7 +18,7 @@ ghost use Rattle.barrier.specs.Counts.{barrierOf, HandsBack, crossing, a
 fn crosses(tag: u64, own: u8) -> bool
     ensures { λ r. ⌜ r ≡ crossing tag own ⌝ }
 {
-    tag % 256 == 5 && tag / 256 != own as u64
+    tag % value::HEAP_STEP == value::POINTER && tag / value::HEAP_STEP != own as u64
 }
 
 fn value_at(cells: &[u64], i: usize) -> Value

@@ -1,9 +1,9 @@
--- The loops over the lengths, and a cell that is read.
+-- Sums of the lengths, the loop that counts allocations, and a cell that is read.
 use mathlib.Core.Path.{_≡_, refl, sym, ap, _∙_}
 use mathlib.Core.List.{List, [], _∷_, map}
-use Prim.Native.Nat.{ℕ, zero, suc, _+_, _-_, _*_, _^_, _≤_, _<_}
+use Prim.Native.Nat.{ℕ, suc, _+_, _-_, _*_, _^_, _≤_, _<_}
 use native.Mathlib.Numerals.{add-one}
-use native.Mathlib.Nat.{not-suc-le-zero, le-of-suc-le-suc, zero-add, le-antisymm}
+use native.Mathlib.Nat.{zero-add, le-antisymm}
 use native.Mathlib.Omega.{arith}
 use mir.Val.{Fits}
 use mir.Syntax.{w64}
@@ -18,46 +18,16 @@ use Rattle.model.specs.Heap.{held, inUse}
 use Rattle.theorems.proofs.Cells.{cell-back, valid-words, words-length}
 use Rattle.theorems.proofs.Regions.{lengths-sum, slots-back}
 use Rattle.words.specs.Words.{padded}
+use Rattle.words.proofs.Sums.{sum-within, sum-front}
 use Rattle.slots.specs.Slots.{Packed, slotsOf, Elder, slotsAt, readOld, answer, validOld, ReadBy}
 use Rattle.slots.specs.declared.Old.{Old}
 use Rattle.slots.specs.declared.Old.the-variants.{At, Nothing}
 use Rattle.slots.proofs.Flat.{use-split, sum-take, slot-cell, valid-at, kind-at, payload-at, offset-at}
 
--- `start_of`
+-- the sums
 
-sum-suc : (l : List ℕ) (i : ℕ) → i < length l → sum (take (suc i) l) ≡ sum (take i l) + getD l i 0
-unfolding sum
-sum-suc [] i h = absurd (not-suc-le-zero h)
-sum-suc (x ∷ l) zero h = omega arith
-sum-suc (x ∷ l) (suc i) h = omega (arith, sum-suc l i (le-of-suc-le-suc h))
-
-sum-below : (l : List ℕ) (i : ℕ) → sum (take i l) ≤ sum l
-unfolding sum
-sum-below l zero = omega arith
-sum-below [] (suc i) = omega arith
-sum-below (x ∷ l) (suc i) = omega (arith, sum-below l i)
-
-pub record Summing (l : List ℕ) (b n i : ℕ) : Type 0 where
-  pub within : i ≤ b
-  pub in-list : b ≤ length l
-  pub is : n ≡ sum (take i l)
-
-pub sum-begin : (l : List ℕ) (b : ℕ) → b ≤ length l → Summing l b 0 0
-unfolding sum
-sum-begin l b h = record { within = omega arith; in-list = h; is = refl }
-
-module _ {l : List ℕ} {b n i : ℕ} (v : Summing l b n i) where
-  sum-next : i < b → n + getD l i 0 ≡ sum (take (i + 1) l)
-  sum-next h = rw (add-one i) (omega (arith, sum-suc l i (omega (arith, v .in-list)), v .is))
-
-  pub sum-fits : i < b → sum l < 2 ^ 64 → Fits w64 (n + getD l i 0)
-  sum-fits h k = omega (arith, sum-next h, sum-below l (i + 1))
-
-  pub sum-turn : i < b → Summing l b (n + getD l i 0) (i + 1)
-  sum-turn h = record { within = omega arith; in-list = v .in-list; is = sum-next h }
-
-  pub sum-done : b ≤ i → n ≡ sum (take b l)
-  sum-done h = v .is ∙ ap (λ (k : ℕ). sum (take k l)) (le-antisymm (v .within) h)
+pub front-fits : (l : List ℕ) (b : ℕ) → sum l < 2 ^ 64 → sum (take b l) < 2 ^ 64
+front-fits l b h = omega (arith, sum-front l b)
 
 pub sum-all : (l : List ℕ) (r : ℕ) → r ≡ sum (take (length l) l) → r ≡ sum l
 sum-all l r e = e ∙ ap sum (take-length l)
@@ -187,9 +157,12 @@ module _ {s at : ℕ} {w : List ℕ} {ss : List (List Cell)} (v : Elder s at w s
 -- `hole_of`
 
 pub hole-fits : (l : List ℕ) (b x : ℕ) → sum l * 3 < 2 ^ 64 → x ≡ sum (take b l) → Fits w64 (3 * x)
-hole-fits l b x h e = omega (arith, sum-below l b)
+hole-fits l b x h e = omega (arith, sum-front l b)
 
-pub hole-old-fits : (l : List ℕ) (b : ℕ) → sum l * 3 < 2 ^ 64 → b < length l → Fits w64 (3 * getD l b 0)
-hole-old-fits l b h k = omega (arith, sum-suc l b k, sum-below l (suc b))
+pub hole-sum-fits : (l : List ℕ) (b : ℕ) → sum l * 3 < 2 ^ 64 → sum (take b l) < 2 ^ 64
+hole-sum-fits l b h = omega (arith, sum-front l b)
 
-pub ruleset counts = (sum-begin, sum-fits, sum-turn, sum-done, sum-all, count-begin, count-done, packed-fits, read-out, read-past, read-fits, read-room, read-cell, lens-count, lens-below, lens-fits, lens-fits-1, hole-fits, hole-old-fits)
+pub hole-old-fits : (l : List ℕ) (b : ℕ) → sum l * 3 < 2 ^ 64 → Fits w64 (3 * getD l b 0)
+hole-old-fits l b h = omega (arith, sum-within l b)
+
+pub ruleset counts = (front-fits, sum-all, count-begin, count-done, packed-fits, read-out, read-past, read-fits, read-room, read-cell, lens-count, lens-below, lens-fits, lens-fits-1, hole-fits, hole-sum-fits, hole-old-fits)

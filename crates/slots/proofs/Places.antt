@@ -8,12 +8,13 @@ use native.Mathlib.Omega.{arith}
 use lib.ListN.{length, getD, set, take, drop, replicate, length-drop, length-set, length-replicate}
 use lib.Seq.{length-take-le, take-at, drop-at, drop-drop, take-set-lt, set-append-left}
 use Rattle.model.specs.Lists.{flat, sum}
-use Rattle.model.specs.Records.{Cell, blank, cellWords, allValid}
+use Rattle.model.specs.Records.{Cell, blank, cellWords, allValid, wholeCells}
 use Rattle.model.specs.Heap.{inUse}
-use Rattle.theorems.proofs.Cells.{words-length, valid-blanks}
+use Rattle.model.specs.Calls.{cellsIn}
+use Rattle.theorems.proofs.Cells.{words-length, valid-blanks, whole-back, whole-valid, whole-length}
 use Rattle.theorems.proofs.Contents.{valid-all, all-valid, set-from}
 use Rattle.words.specs.Words.{padded}
-use Rattle.slots.specs.Slots.{Elder, Changed, Placed, slotsAt}
+use Rattle.slots.specs.Slots.{Elder, Changed, slotsAt}
 use Rattle.slots.proofs.Flat.{flat-split, flat-put, use-split, use-put, words-append, map-set}
 use Rattle.slots.proofs.Counts.{packed-sum, packed-start, packed-length, packed-rest, slots-length}
 use Rattle.slots.proofs.Parts.{lent, returned, lent-is, lent-length, returned-is, between-store}
@@ -116,13 +117,9 @@ words-blank (suc n) = let e : 3 * suc n ≡ suc (suc (suc (3 * n))) = omega arit
 
 module _ {s at : ℕ} {w : List ℕ} (v : Elder s at w (slotsAt s at w)) (b i j k : ℕ) (ei : i ≡ sum (take b (take s w)) * 3) (ej : j ≡ getD (take s w) b 0 * 3) (ek : k ≡ sum (take s w) * 3) (h : b < s) (len : ℕ)
     (r : (inUse (set (slotsAt s at w) b []) + len) * 3 ≤ length w - at) where
-  pub place-made : (src : List ℕ) → length src ≡ len * 3 → {ys : List ℕ} → ys ≡ padded (take i (lent at w) ++ (src ++ take (k - (i + j)) (drop (i + j) (lent at w)))) (length (lent at w))
-      → Placed s at b w src (set (returned at w ys) b len)
-  place-made src l e = record {
-    placed = λ cs c u.
-        let n : length cs ≡ len = omega (arith, ap length c, words-length cs) in
-        place-done v b i j k ei ej ek h len r cs u n (rw c at e);
-  }
+  pub place-made : (src : List ℕ) → length src ≡ len * 3 → wholeCells src ≡ true → {ys : List ℕ} → ys ≡ padded (take i (lent at w) ++ (src ++ take (k - (i + j)) (drop (i + j) (lent at w)))) (length (lent at w))
+      → Changed s at w (set (returned at w ys) b len) (set (slotsAt s at w) b (cellsIn src))
+  place-made src l u {ys} e = place-done v b i j k ei ej ek h len r (cellsIn src) (whole-valid src u) (omega (arith, whole-length src u)) {ys = ys} (rw (whole-back src u) e)
 
   pub blank-made : {ys : List ℕ} → ys ≡ padded (take i (lent at w) ++ (replicate (3 * len) 0 ++ take (k - (i + j)) (drop (i + j) (lent at w)))) (length (lent at w))
       → Changed s at w (set (returned at w ys) b len) (set (slotsAt s at w) b (replicate len blank))

@@ -1,5 +1,5 @@
 -- The elder's cells, changed in place.
-use mathlib.Core.Path.{_≡_, refl, sym, ap₂, _∙_}
+use mathlib.Core.Path.{_≡_, refl, sym, ap, ap₂, _∙_}
 use mathlib.Core.Bool.{true}
 use mathlib.Core.List.{List, [], _∷_, _++_, map}
 use Prim.Native.Nat.{ℕ, _+_, _-_, _*_, _^_, _≤_, _<_}
@@ -9,14 +9,15 @@ use mir.Syntax.{w64}
 use lib.ListN.{length, take, drop, length-drop, length-map}
 use lib.Seq.{take-at}
 use Rattle.model.specs.Lists.{keepIf, flat, sum}
-use Rattle.model.specs.Records.{Ptr, Cell, cellWords, allValid}
+use Rattle.model.specs.Records.{Ptr, Cell, cellWords, allValid, wholeCells}
 use Rattle.model.specs.Heap.{inUse}
 use Rattle.model.specs.Collector.{holds, swapCell}
-use Rattle.theorems.proofs.Cells.{words-length}
+use Rattle.model.specs.Calls.{cellsIn}
+use Rattle.theorems.proofs.Cells.{words-length, whole-words, words-in}
 use Rattle.theorems.proofs.Contents.{flat-map, valid-all, all-valid, valid-swap}
 use Rattle.theorems.proofs.Elder.{flat-map-length}
 use Rattle.words.specs.Words.{padded}
-use Rattle.slots.specs.Slots.{Elder, Changed, Swapped}
+use Rattle.slots.specs.Slots.{Elder, Changed}
 use Rattle.slots.proofs.Counts.{packed-sum, packed-rest}
 use Rattle.slots.proofs.Changes.{changed}
 
@@ -53,13 +54,17 @@ module _ {s at : ℕ} {w : List ℕ} {ss : List (List Cell)} (v : Elder s at w s
   pub part-count : length part ≡ used * 3
   part-count = rw part-is (omega (arith, part-length))
 
-  module _ {q : Ptr} {new : ℕ} {ys : List ℕ} {r : ℕ} (p : Swapped (q, new) used part ys r) where
-    abbrev m : Ptr × ℕ
-    m = (q, new)
+  pub part-whole : wholeCells part ≡ true
+  part-whole = rw part-is (whole-words (flat ss) (v .packed .valid))
 
+  part-cells : cellsIn part ≡ flat ss
+  part-cells = rw part-is (words-in (flat ss) (v .packed .valid))
+
+  module _ (q : Ptr) {r : ℕ} (p : r ≡ length (keepIf (holds q) (cellsIn part))) where
     pub swap-count : r ≡ length (keepIf (holds q) (flat ss))
-    swap-count = p .swapped (flat ss) (sym used-is) (v .packed .valid) part-is .1
+    swap-count = p ∙ ap (λ (l : List Cell). length (keepIf (holds q) l)) part-cells
 
+  module _ (m : Ptr × ℕ) {ys : List ℕ} (p : ys ≡ cellWords (map (swapCell m) (cellsIn part))) where
     pub swap-made : Changed s at w (take at w ++ (ys ++ drop (at + 3 * used - at) (drop at w))) (map (map (swapCell m)) ss)
     unfolding inUse padded
     swap-made =
@@ -67,9 +72,9 @@ module _ {s at : ℕ} {w : List ℕ} {ss : List (List Cell)} (v : Elder s at w s
         let k : ℕ = at + 3 * used - at in
         let same : length (flat rs) ≡ length (flat ss) = flat-map-length (swapCell m) ss in
         let long : k ≡ length (cellWords (flat rs)) = omega (arith, words-length (flat rs), used-is) in
-        let cells : ys ≡ cellWords (flat rs) = rw (flat-map (swapCell m) ss) (p .swapped (flat ss) (sym used-is) (v .packed .valid) part-is .0) in
+        let cells : ys ≡ cellWords (flat rs) = p ∙ ap cellWords (ap (map (swapCell m)) part-cells ∙ sym (flat-map (swapCell m) ss)) in
         let words : ys ++ drop k (drop at w) ≡ padded (cellWords (flat rs)) (length (drop at w)) = rw (cells, packed-rest (v .packed) k (omega (arith, used-is)), long) in
         let valid : allValid (flat rs) ≡ true = rw (flat-map (swapCell m) ss) (valid-all _ (valid-swap m (flat ss) (all-valid (flat ss) (v .packed .valid)))) in
         changed w (v .order) (v .inside) refl rs (v .packed .lens ∙ sym (lengths-same (swapCell m) ss)) (length (drop at w)) (omega (arith, v .packed .fits)) valid (ys ++ drop k (drop at w)) words
 
-pub ruleset swapped = (end-fits-3, end-fits, end-inside, part-count, swap-count, swap-made)
+pub ruleset swapped = (end-fits-3, end-fits, end-inside, part-count, part-whole, swap-count, swap-made)

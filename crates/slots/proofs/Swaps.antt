@@ -11,15 +11,15 @@ use lib.ListN.{length, getD, set, take, drop}
 use lib.Seq.{set-getD, take-length, drop-length}
 use borrow.Author.Tests.{lt-ltb}
 use Rattle.model.specs.Lists.{consIf, keepIf}
-use Rattle.model.specs.Records.{Ptr, Cell, plain, ref, blank, cellWords, cellOf, valid, allValid, whole}
+use Rattle.model.specs.Records.{Ptr, Cell, plain, ref, blank, cellWords, cellOf, valid, allValid, wholeCells, whole}
 use Rattle.model.specs.Collector.{movedTo, holds, swapCell}
+use Rattle.model.specs.Calls.{cellsIn}
 use Rattle.theorems.proofs.Barrier.{bit}
-use Rattle.theorems.proofs.Cells.{kindWord, payloadWord, offsetWord, cell-back}
+use Rattle.theorems.proofs.Cells.{kindWord, payloadWord, offsetWord, cell-back, whole-words, words-in, whole-back, whole-valid, whole-length}
 use Rattle.theorems.proofs.Contents.{valid-all, all-valid, valid-swap}
 use Rattle.theorems.proofs.Lists.{take-in, drop-in}
 use Rattle.theorems.proofs.Members.{samePtr-eq, samePtr-refl}
 use Rattle.trace.specs.Words.{pointer}
-use Rattle.slots.specs.Slots.{Swapped, SwappedAt}
 use Rattle.slots.proofs.Flat.{valid-at, kind-at, payload-at, offset-at, put-cell}
 
 false-of : (t : Bool) → (t ≡ true → ⊥) → t ≡ false
@@ -39,44 +39,55 @@ swap-yes : (m : Ptr × ℕ) (c : Cell) → holds (m .0) c ≡ true → swapCell 
 unfolding swapCell
 swap-yes m c e = rw (e, swapCell)
 
--- `swap_at`: the words w are those of cs
+-- `swap_at`
 
-module _ (h b o n i : ℕ) (w : List ℕ) where
+-- cs with the i-th changed, and whether it was
+abbrev SwappedAt : Ptr × ℕ → ℕ → List Cell → List ℕ → Bool → Type 0
+SwappedAt m i cs v r = (v ≡ cellWords (set cs i (swapCell m (getD cs i blank)))) × (r ≡ holds (m .0) (getD cs i blank))
+
+module _ (h b o n i : ℕ) (w : List ℕ) (u : wholeCells w ≡ true) (l : i * 3 + 2 < length w) where
   abbrev p : Ptr
   p = pointer h b o
 
-  abbrev At : List Cell → Cell
-  At cs = getD cs i blank
+  abbrev cs : List Cell
+  cs = cellsIn w
 
-  missed : ((cs : List Cell) → i < length cs → w ≡ cellWords cs ++ [] → At cs ≡ ref p → ⊥) → SwappedAt (p, n) i w w false
-  missed f = record {
-    swapped = λ cs l v e.
-        let q : holds p (At cs) ≡ false = false-of (holds p (At cs)) (λ t. f cs l (e ∙ sym (append-nil (cellWords cs))) (holds-is p (At cs) t)) in
-        (rw (swap-no (p, n) (At cs) q, set-getD cs i blank) e, sym q);
-  }
+  -- the i-th
+  abbrev c : Cell
+  c = getD cs i blank
 
-  pub swap-kind : (getD w (3 * i) 0 ≡ 5 + 256 * h → ⊥) → SwappedAt (p, n) i w w false
-  swap-kind d = missed (λ cs l e t. d (kind-at cs [] e i l ∙ ap kindWord t ∙ omega arith))
+  inside : i < length cs
+  inside = omega (arith, whole-length w u)
 
-  pub swap-payload : (getD w (3 * i + 1) 0 ≡ b → ⊥) → SwappedAt (p, n) i w w false
-  swap-payload d = missed (λ cs l e t. d (payload-at cs [] e i l ∙ ap payloadWord t))
+  w-is : w ≡ cellWords cs ++ []
+  w-is = sym (whole-back w u) ∙ sym (append-nil (cellWords cs))
 
-  pub swap-offset : (getD w (3 * i + 2) 0 ≡ o → ⊥) → SwappedAt (p, n) i w w false
-  swap-offset d = missed (λ cs l e t. d (offset-at cs [] e i l ∙ ap offsetWord t))
+  missed : (c ≡ ref p → ⊥) → SwappedAt (p, n) i cs w false
+  missed f =
+      let q : holds p c ≡ false = false-of (holds p c) (λ t. f (holds-is p c t)) in
+      (rw (swap-no (p, n) c q, set-getD cs i blank) (sym (whole-back w u)), sym q)
 
-  pub swap-hit : h < 2 → getD w (3 * i) 0 ≡ 5 + 256 * h → getD w (3 * i + 1) 0 ≡ b → getD w (3 * i + 2) 0 ≡ o → SwappedAt (p, n) i w (set (set (set w (3 * i) 261) (3 * i + 1) n) (3 * i + 2) 0) true
+  pub swap-kind : (getD w (3 * i) 0 ≡ 5 + 256 * h → ⊥) → SwappedAt (p, n) i cs w false
+  swap-kind d = missed (λ t. d (kind-at cs [] w-is i inside ∙ ap kindWord t ∙ omega arith))
+
+  pub swap-payload : (getD w (3 * i + 1) 0 ≡ b → ⊥) → SwappedAt (p, n) i cs w false
+  swap-payload d = missed (λ t. d (payload-at cs [] w-is i inside ∙ ap payloadWord t))
+
+  pub swap-offset : (getD w (3 * i + 2) 0 ≡ o → ⊥) → SwappedAt (p, n) i cs w false
+  swap-offset d = missed (λ t. d (offset-at cs [] w-is i inside ∙ ap offsetWord t))
+
+  pub swap-hit : h < 2 → getD w (3 * i) 0 ≡ 5 + 256 * h → getD w (3 * i + 1) 0 ≡ b → getD w (3 * i + 2) 0 ≡ o → SwappedAt (p, n) i cs (set (set (set w (3 * i) 261) (3 * i + 1) n) (3 * i + 2) 0) true
   unfolding movedTo whole valid holds
-  swap-hit g x y z = record {
-    swapped = λ cs l v e.
-        let d : w ≡ cellWords cs ++ [] = e ∙ sym (append-nil (cellWords cs)) in
-        let k : kindWord (At cs) ≡ h * 256 + 5 = sym (kind-at cs [] d i l) ∙ x ∙ omega arith in
-        let q : At cs ≡ ref p =
-        sym (cell-back (At cs) (valid-at cs i l v))
-        ∙ (λ j. cellOf (k j) ((sym (payload-at cs [] d i l) ∙ y) j) ((sym (offset-at cs [] d i l) ∙ z) j))
-        ∙ cell-back (ref p) (lt-ltb h 2 g) in
-        let t : holds p (At cs) ≡ true = rw q (samePtr-refl p) in
-        (rw (swap-yes (p, n) (At cs) t, e) (put-cell cs i (ref (movedTo (p, n))) l), sym t);
-  }
+  swap-hit g x y z =
+      let k : kindWord c ≡ h * 256 + 5 = sym (kind-at cs [] w-is i inside) ∙ x ∙ omega arith in
+      let q : c ≡ ref p =
+      sym (cell-back c (valid-at cs i inside (whole-valid w u)))
+      ∙ (λ j. cellOf (k j) ((sym (payload-at cs [] w-is i inside) ∙ y) j) ((sym (offset-at cs [] w-is i inside) ∙ z) j))
+      ∙ cell-back (ref p) (lt-ltb h 2 g) in
+      let t : holds p c ≡ true = rw q (samePtr-refl p) in
+      let stored : set (set (set w (3 * i) 261) (3 * i + 1) n) (3 * i + 2) 0 ≡ cellWords (set cs i (ref (movedTo (p, n)))) =
+      ap (λ (a : List ℕ). set (set (set a (3 * i) 261) (3 * i + 1) n) (3 * i + 2) 0) (sym (whole-back w u)) ∙ put-cell cs i (ref (movedTo (p, n))) inside in
+      (rw (swap-yes (p, n) c t) stored, sym t)
 
 -- `swap_cells`: i cells are changed
 
@@ -96,12 +107,6 @@ module _ {A : Type 0} (f : A → A) (d : A) where
   front-next [] i h = absurd (not-suc-le-zero h)
   front-next (c ∷ cs) zero h = refl
   front-next (c ∷ cs) (suc i) h = ap (λ (r : List A). f c ∷ r) (front-next cs i (le-of-suc-le-suc h))
-
-  front-length : (cs : List A) (i : ℕ) → length (front f i cs) ≡ length cs
-  unfolding front
-  front-length cs zero = refl
-  front-length [] (suc i) = refl
-  front-length (c ∷ cs) (suc i) = ap suc (front-length cs i)
 
 front-valid : (m : Ptr × ℕ) (cs : List Cell) (i : ℕ) → allValid cs ≡ true → allValid (front (swapCell m) i cs) ≡ true
 unfolding front
@@ -128,50 +133,65 @@ pub record Swapping (m : Ptr × ℕ) (n : ℕ) (w₀ w : List ℕ) (hits i : ℕ
   pub within : i ≤ n
   pub few : hits ≤ i
   pub len : length w ≡ n * 3
-  pub is : (cs : List Cell) → length cs ≡ n → allValid cs ≡ true → w₀ ≡ cellWords cs → (w ≡ cellWords (front (swapCell m) i cs)) × (hits ≡ length (keepIf (holds (m .0)) (take i cs)))
+  pub size : length (cellsIn w₀) ≡ n
+  pub good : allValid (cellsIn w₀) ≡ true
+  pub is : w ≡ cellWords (front (swapCell m) i (cellsIn w₀))
+  pub count : hits ≡ length (keepIf (holds (m .0)) (take i (cellsIn w₀)))
 
-pub swap-begin : (m : Ptr × ℕ) (n : ℕ) (w : List ℕ) → length w ≡ n * 3 → Swapping m n w w 0 0
+pub swap-begin : (m : Ptr × ℕ) (n : ℕ) (w : List ℕ) → length w ≡ n * 3 → wholeCells w ≡ true → Swapping m n w w 0 0
 unfolding front keepIf
-swap-begin m n w l = record { within = omega arith; few = omega arith; len = l; is = λ cs k v e. (e, refl) }
+swap-begin m n w l u = record { within = omega arith; few = omega arith; len = l; size = omega (arith, whole-length w u); good = whole-valid w u; is = sym (whole-back w u); count = refl }
 
 module _ {m : Ptr × ℕ} {n : ℕ} {w₀ w : List ℕ} {hits i : ℕ} (x : Swapping m n w₀ w hits i) where
+  abbrev before : List Cell
+  before = cellsIn w₀
+
+  -- the words are cells still
+
+  still-valid : allValid (front (swapCell m) i before) ≡ true
+  still-valid = front-valid m before i (x .good)
+
+  pub swap-whole : wholeCells w ≡ true
+  swap-whole = rw (x .is) (whole-words (front (swapCell m) i before) still-valid)
+
+  cells-are : cellsIn w ≡ front (swapCell m) i before
+  cells-are = rw (x .is) (words-in (front (swapCell m) i before) still-valid)
+
   pub swap-room : i < n → i * 3 + 2 < length w
   swap-room h = omega (arith, x .len)
 
-  swap-turn : {w′ : List ℕ} (r : Bool) {hits′ : ℕ} → i < n → length w′ ≡ length w → SwappedAt m i w w′ r → hits′ ≡ hits + bit r → Swapping m n w₀ w′ hits′ (i + 1)
-  swap-turn r h l s e = record {
-    within = omega arith;
-    few = go r (x .few) e;
-    len = l ∙ x .len;
-    is = λ cs k v q.
-        let (p, c) = x .is cs k v q in
-        let below : i < length cs = omega arith in
-        let (p′, c′) = s .swapped (front (swapCell m) i cs) (rw (front-length (swapCell m) blank cs i) below) (front-valid m cs i v) p in
-        rw add-one (
-          rw (front-get (swapCell m) blank cs i, front-next (swapCell m) blank cs i below) at p′,
-          e ∙ (λ j. c j + bit ((c′ ∙ ap (holds (m .0)) (front-get (swapCell m) blank cs i)) j)) ∙ sym (hits-next (holds (m .0)) cs i below),
-        );
-  }
+  swap-turn : {w′ : List ℕ} (r : Bool) {hits′ : ℕ} → i < n → length w′ ≡ length w → SwappedAt m i (cellsIn w) w′ r → hits′ ≡ hits + bit r → Swapping m n w₀ w′ hits′ (i + 1)
+  swap-turn {w′} r {hits′} h l s e =
+      let below : i < length before = omega (arith, x .size) in
+      let (p, c) : SwappedAt m i (front (swapCell m) i before) w′ r = rw cells-are at s in
+      let cell = front-get (swapCell m) blank before i in
+      record {
+        within = omega arith;
+        few = go r (x .few) e;
+        len = l ∙ x .len;
+        size = x .size;
+        good = x .good;
+        is = rw add-one (p ∙ ap cellWords (ap (λ (d : Cell). set (front (swapCell m) i before) i (swapCell m d)) cell ∙ front-next (swapCell m) blank before i below));
+        count = rw add-one (e ∙ (λ j. x .count j + bit ((c ∙ ap (holds (m .0)) cell) j)) ∙ sym (hits-next (holds (m .0)) before i below));
+      }
     where
       go : (t : Bool) {a b : ℕ} → a ≤ i → b ≡ a + bit t → b ≤ i + 1
       go true h e = omega arith
       go false h e = omega arith
 
-  pub swap-found : {w′ : List ℕ} {r : Bool} {hits′ : ℕ} → i < n → length w′ ≡ length w → SwappedAt m i w w′ r → r ≡ true → hits′ ≡ hits + 1 → Swapping m n w₀ w′ hits′ (i + 1)
+  pub swap-found : {w′ : List ℕ} {r : Bool} {hits′ : ℕ} → i < n → length w′ ≡ length w → SwappedAt m i (cellsIn w) w′ r → r ≡ true → hits′ ≡ hits + 1 → Swapping m n w₀ w′ hits′ (i + 1)
   swap-found {r = r} h l s t e = swap-turn r h l s (rw t e)
 
-  pub swap-missed : {w′ : List ℕ} {r : Bool} {hits′ : ℕ} → i < n → length w′ ≡ length w → SwappedAt m i w w′ r → r ≡ false → hits′ ≡ hits → Swapping m n w₀ w′ hits′ (i + 1)
+  pub swap-missed : {w′ : List ℕ} {r : Bool} {hits′ : ℕ} → i < n → length w′ ≡ length w → SwappedAt m i (cellsIn w) w′ r → r ≡ false → hits′ ≡ hits → Swapping m n w₀ w′ hits′ (i + 1)
   swap-missed {r = r} h l s t e = swap-turn r h l s (rw t (omega arith))
 
-  pub swap-done : n ≤ i → Swapped m n w₀ w hits
+  pub swap-done : n ≤ i → (w ≡ cellWords (map (swapCell m) before)) × (hits ≡ length (keepIf (holds (m .0)) before))
   unfolding front
-  swap-done h = record {
-    swapped = λ cs k v e.
-        let q : i ≡ length cs = omega (arith, x .within) in
-        let (p, c) = x .is cs k v e in (
-          p ∙ ap cellWords (rw (q, take-length cs, drop-length cs) (append-nil (map (swapCell m) cs))),
-          c ∙ ap (λ (l : List Cell). length (keepIf (holds (m .0)) l)) (rw q (take-length cs)),
-        );
-  }
+  swap-done h =
+      let q : i ≡ length before = omega (arith, x .within, x .size) in
+      let taken : take i before ≡ before = rw q (take-length before) in (
+        x .is ∙ ap cellWords (rw (taken, q, drop-length before) (append-nil (map (swapCell m) before))),
+        x .count ∙ ap (λ (l : List Cell). length (keepIf (holds (m .0)) l)) taken,
+      )
 
-pub ruleset swaps = (swap-kind, swap-payload, swap-offset, swap-hit, swap-begin, swap-room, swap-done)
+pub ruleset swaps = (swap-begin, swap-whole, swap-room)

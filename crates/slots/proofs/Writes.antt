@@ -11,14 +11,15 @@ use mir.Syntax.{w64}
 use lib.ListN.{length, getD, set, take, drop, length-append, length-drop, length-set}
 use lib.Seq.{paste, set-append-left, map-set-same}
 use Rattle.model.specs.Lists.{flat, sum}
-use Rattle.model.specs.Records.{Cell, cellWords, valid, allValid}
+use Rattle.model.specs.Records.{Cell, cellWords, cellOf, cellsOf, valid, allValid, wholeCells}
 use Rattle.model.specs.Heap.{inUse}
-use Rattle.theorems.proofs.Cells.{words-cons, words-length}
+use Rattle.model.specs.Calls.{cellsIn}
+use Rattle.theorems.proofs.Cells.{words-cons, words-length, in-of, whole-back, whole-valid}
 use Rattle.theorems.proofs.Contents.{valid-all, all-valid, cell-set-from}
 use Rattle.theorems.proofs.Elder.{in-range}
-use Rattle.theorems.proofs.Lists.{flat-in}
+use Rattle.theorems.proofs.Lists.{and-left, flat-in}
 use Rattle.words.specs.Words.{padded}
-use Rattle.slots.specs.Slots.{Elder, Changed, Written, slotsAt}
+use Rattle.slots.specs.Slots.{Elder, Changed, slotsAt, written}
 use Rattle.slots.proofs.Flat.{use-split}
 use Rattle.slots.proofs.Counts.{packed-start, packed-size}
 use Rattle.slots.proofs.Parts.{lent, returned, lent-is, lent-length, returned-is}
@@ -84,8 +85,23 @@ module _ {s at : ℕ} {w : List ℕ} {ss : List (List Cell)} (v : Elder s at w s
         let slot : allValid (set x o c) ≡ true = valid-all _ (λ d m. ⊎-elim (λ k. all d (flat-in ss b d k)) (λ k. rw k u) (cell-set-from x o c m)) in
         rw (returned-is w at (v .inside) ys) (changed w (v .order) (v .inside) refl rs lens (length (drop at w)) (omega (arith, v .packed .fits)) (set-valid ss b (set x o c) (v .packed .valid) slot) ys (q ∙ write-words c))
 
-pub write-made : {s at : ℕ} {w : List ℕ} → Elder s at w (slotsAt s at w) → (b o : ℕ) → o < length (getD (slotsAt s at w) b []) → (f : ℕ) → f ≡ sum (take b (take s w)) → (cell : List ℕ) → length cell ≡ 3
-    → {ys : List ℕ} → ys ≡ paste (lent at w) (3 * (f + o)) cell (length cell) → Written s at b o w cell (returned at w ys)
-write-made v b o h f e cell k q = record { written = λ c d u. write-done v b o h f e c u (rw (k, d) at q) }
+module _ (cell : List ℕ) (k : length cell ≡ 3) (u : wholeCells cell ≡ true) where
+  abbrev one : Cell
+  one = cellOf (getD cell 0 0) (getD cell 1 0) (getD cell 2 0)
+
+  one-in : cellsIn cell ≡ one ∷ []
+  unfolding cellsOf
+  one-in = in-of 1 cell (omega arith)
+
+  one-words : cell ≡ cellWords (one ∷ [])
+  one-words = rw (← one-in) (sym (whole-back cell u))
+
+  one-valid : valid one ≡ true
+  unfolding allValid
+  one-valid = and-left (valid one) true (rw one-in at (whole-valid cell u))
+
+  pub write-made : {s at : ℕ} {w : List ℕ} → Elder s at w (slotsAt s at w) → (b o : ℕ) → o < length (getD (slotsAt s at w) b []) → (f : ℕ) → f ≡ sum (take b (take s w))
+      → {ys : List ℕ} → ys ≡ paste (lent at w) (3 * (f + o)) cell (length cell) → Changed s at w (returned at w ys) (written b o cell (slotsAt s at w))
+  write-made {at = at} {w} v b o h f e q = write-done v b o h f e one one-valid (q ∙ (λ i. paste (lent at w) (3 * (f + o)) (one-words i) (k i)))
 
 pub ruleset writes = (write-base, write-fits, write-fits-3, write-room, write-made)

@@ -1,17 +1,16 @@
 -- The elder's slots in words: what the contracts of `src/` cite.
 use mathlib.Core.Path.{_≡_}
 use mathlib.Core.Bool.{Bool, true, false}
-use mathlib.Core.List.{List, [], _∷_, _++_, map}
-use Prim.Native.Nat.{ℕ, _+_, _*_, _≤_, _<_}
+use mathlib.Core.List.{List, [], _++_, map}
+use Prim.Native.Nat.{ℕ, _+_, _*_, _≤_}
 use lib.Dec.{ltb}
 use lib.ListN.{length, getD, take, drop, set}
 use lib.Seq.{paste}
-use Rattle.model.specs.Lists.{keepIf, flat, sum}
+use Rattle.model.specs.Lists.{flat, sum}
 use Rattle.model.specs.Res.{Res, ok, refuse, _>>=_, ask}
-use Rattle.model.specs.Records.{Ptr, Cell, blank, cellWords, cellOf, cellsOf, valid, allValid, validWords}
+use Rattle.model.specs.Records.{Cell, blank, cellWords, cellOf, cellsOf, allValid, validWords}
 use Rattle.model.specs.Heap.{inUse}
 use Rattle.model.specs.Image.{cut}
-use Rattle.model.specs.Collector.{holds, swapCell}
 use Rattle.words.specs.Words.{padded}
 use Rattle.slots.specs.declared.Old.{Old}
 use Rattle.slots.specs.declared.Old.the-variants.{At, Nothing}
@@ -62,22 +61,9 @@ pub record ReadBy (m : Res Cell) (r : Old) : Type 0 where
   pub is : answer r ≡ m
   pub valid : validOld r ≡ true
 
--- the words of one cell written at (b, o), whatever cell it is
-pub record Written (s at b o : ℕ) (w cell v : List ℕ) : Type 0 where
-  pub written : (c : Cell) → cell ≡ cellWords (c ∷ []) → valid c ≡ true → Changed s at w v (set (slotsAt s at w) b (set (getD (slotsAt s at w) b []) o c))
-
--- a pointer changed in the words of any valid cells
-
-pub record SwappedAt (m : Ptr × ℕ) (i : ℕ) (w v : List ℕ) (r : Bool) : Type 0 where
-  pub swapped : (cs : List Cell) → i < length cs → allValid cs ≡ true → w ≡ cellWords cs → (v ≡ cellWords (set cs i (swapCell m (getD cs i blank)))) × (r ≡ holds (m .0) (getD cs i blank))
-
--- n cells; r of them held it
-pub record Swapped (m : Ptr × ℕ) (n : ℕ) (w v : List ℕ) (r : ℕ) : Type 0 where
-  pub swapped : (cs : List Cell) → length cs ≡ n → allValid cs ≡ true → w ≡ cellWords cs → (v ≡ cellWords (map (swapCell m) cs)) × (r ≡ length (keepIf (holds (m .0)) cs))
-
--- the words src placed at base b, whatever cells they are
-pub record Placed (s at b : ℕ) (w src v : List ℕ) : Type 0 where
-  pub placed : (cs : List Cell) → src ≡ cellWords cs → allValid cs ≡ true → Changed s at w v (set (slotsAt s at w) b cs)
+-- the cell of three words written at (b, o)
+abbrev pub written : ℕ → ℕ → List ℕ → List (List Cell) → List (List Cell)
+written b o cell slots = set slots b (set (getD slots b []) o (cellOf (getD cell 0 0) (getD cell 1 0) (getD cell 2 0)))
 
 -- one slot of n words is kept, its words moved from src to dst, or dropped
 

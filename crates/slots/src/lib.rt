@@ -3,39 +3,27 @@
 // A reading function takes the lengths and the cells' words as two slices. A writing one takes a single slice, since two parts
 // of one slice can't be lent together: s lengths, other words up to `at`, the cells' words.
 ghost use mathlib.Core.Path.{_≡_};
+ghost use mathlib.Core.Bool.{true};
 ghost use mathlib.Core.List.{[], map};
 ghost use Prim.Native.Nat.{_+_, _-_, _*_, _^_, _≤_, _<_};
 ghost use lib.ListN.{length, getD, take, set, replicate};
 ghost use Rattle.model.specs.Lists.{keepIf, flat, places, sum};
-ghost use Rattle.model.specs.Records.{blank};
+ghost use Rattle.model.specs.Records.{blank, cellWords, wholeCells};
 ghost use Rattle.model.specs.Heap.{inUse};
 ghost use Rattle.model.specs.Elder.{keeps, keep};
 ghost use Rattle.model.specs.Collector.{holds, swapCell};
+ghost use Rattle.model.specs.Calls.{cellsIn};
 ghost use Rattle.trace.specs.Words.{pointer, members};
-ghost use Rattle.slots.specs.Slots.{Packed, slotsOf, slotsAt, Elder, Changed, readOld, ReadBy, Written, Swapped, SwappedAt, Placed, stepped, steppedTo};
+ghost use Rattle.slots.specs.Slots.{Packed, slotsOf, slotsAt, Elder, Changed, readOld, ReadBy, written, stepped, steppedTo};
 
 // ---- Lengths
-
-// The number of cells before base b. Every elder access runs this loop: it only adds, so that it can be done many at a time.
-pub fn start_of(lens: &[u64], b: usize) -> usize
-    requires { ⌜ (b ≤ length (now lens)) × (sum (now lens) < 2 ^ 64) ⌝ }
-    ensures { λ r. ⌜ r ≡ sum (take b (now (lens .entry))) ⌝ }
-{
-    let mut n: usize = 0;
-    let mut i = 0;
-    while i < b {
-        n += lens[i] as usize;
-        i += 1;
-    }
-    n
-}
 
 // The number of cells in use.
 pub fn in_use(lens: &[u64]) -> usize
     requires { ⌜ sum (now lens) < 2 ^ 64 ⌝ }
     ensures { λ r. ⌜ r ≡ sum (now (lens .entry)) ⌝ }
 {
-    start_of(lens, lens.len())
+    words::sum_first(lens, lens.len())
 }
 
 // The number of allocations.
@@ -83,28 +71,30 @@ pub fn read_old(lens: &[u64], cells: &[u64], base: u64, offset: u64) -> Old
     if n <= o {
         return Old::Nothing;
     }
-    cell_at(cells, start_of(lens, b) + o)
+    cell_at(cells, words::sum_first(lens, b) + o)
 }
 
 // The three words of cell take the place of the cell at (b, o).
 pub fn write_old(w: &mut [u64], s: usize, at: usize, b: usize, o: usize, cell: &[u64])
     requires { ⌜ Elder s at (now w) (slotsAt s at (now w)) ⌝ }
-    requires { ⌜ (o < length (getD (slotsAt s at (now w)) b [])) × (length (now cell) ≡ 3) ⌝ }
-    ensures { λ _. ⌜ Written s at b o (now (w .entry)) (now (cell .entry)) (now (w .exit)) ⌝ }
+    requires { ⌜ o < length (getD (slotsAt s at (now w)) b []) ⌝ }
+    requires { ⌜ (length (now cell) ≡ 3) × (wholeCells (now cell) ≡ true) ⌝ }
+    ensures { λ _. ⌜ Changed s at (now (w .entry)) (now (w .exit)) (written b o (now (cell .entry)) (slotsAt s at (now (w .entry)))) ⌝ }
 {
-    let i = start_of(&w[..s], b) + o;
+    let i = words::sum_first(&w[..s], b) + o;
     words::copy_words(&mut w[at..], 3 * i, cell);
 }
 
-// ---- Cells that hold a pointer are changed; the words may be those of any cells
+// ---- Cells that hold a pointer are changed; the words may be those of any valid cells
 
 // The i-th cell becomes (1, new, 0) if it is the pointer. Answers whether it was.
 pub fn swap_at(cells: &mut [u64], i: usize, heap: u64, base: u64, offset: u64, new: u64) -> bool
-    requires { ⌜ (i * 3 + 2 < length (now cells)) × (heap < 2) ⌝ }
-    ensures { λ r. ⌜ SwappedAt (pointer heap base offset, new) i (now (cells .entry)) (now (cells .exit)) r ⌝ }
+    requires { ⌜ (i * 3 + 2 < length (now cells)) × (wholeCells (now cells) ≡ true) × (heap < 2) ⌝ }
+    ensures { λ _. ⌜ now (cells .exit) ≡ cellWords (set (cellsIn (now (cells .entry))) i (swapCell (pointer heap base offset, new) (getD (cellsIn (now (cells .entry))) i blank))) ⌝ }
+    ensures { λ r. ⌜ r ≡ holds (pointer heap base offset) (getD (cellsIn (now (cells .entry))) i blank) ⌝ }
 {
     let at = 3 * i;
-    if cells[at] != 5 + 256 * heap {
+    if cells[at] != value::POINTER + value::HEAP_STEP * heap {
         return false;
     }
     if cells[at + 1] != base {
@@ -113,7 +103,7 @@ pub fn swap_at(cells: &mut [u64], i: usize, heap: u64, base: u64, offset: u64, n
     if cells[at + 2] != offset {
         return false;
     }
-    cells[at] = 261;
+    cells[at] = value::ELDER;
     cells[at + 1] = new;
     cells[at + 2] = 0;
     true
@@ -121,8 +111,9 @@ pub fn swap_at(cells: &mut [u64], i: usize, heap: u64, base: u64, offset: u64, n
 
 // The same of all n cells. Answers how many there were: each counts in a barrier.
 pub fn swap_cells(cells: &mut [u64], n: usize, heap: u64, base: u64, offset: u64, new: u64) -> usize
-    requires { ⌜ (length (now cells) ≡ n * 3) × (heap < 2) ⌝ }
-    ensures { λ r. ⌜ Swapped (pointer heap base offset, new) n (now (cells .entry)) (now (cells .exit)) r ⌝ }
+    requires { ⌜ (length (now cells) ≡ n * 3) × (wholeCells (now cells) ≡ true) × (heap < 2) ⌝ }
+    ensures { λ _. ⌜ now (cells .exit) ≡ cellWords (map (swapCell (pointer heap base offset, new)) (cellsIn (now (cells .entry)))) ⌝ }
+    ensures { λ r. ⌜ r ≡ length (keepIf (holds (pointer heap base offset)) (cellsIn (now (cells .entry)))) ⌝ }
 {
     let mut hits: usize = 0;
     let mut i = 0;
@@ -168,7 +159,7 @@ fn hole_of(lens: &[u64], b: usize) -> Hole
     requires { ⌜ (b < length (now lens)) × (sum (now lens) * 3 < 2 ^ 64) ⌝ }
     ensures { λ r. ⌜ (r .at ≡ sum (take b (now (lens .entry))) * 3) × (r .old ≡ getD (now (lens .entry)) b 0 * 3) × (r .used ≡ sum (now (lens .entry)) * 3) ⌝ }
 {
-    let at = start_of(lens, b);
+    let at = words::sum_first(lens, b);
     let old = lens[b] as usize;
     let used = in_use(lens);
     Hole {
@@ -181,9 +172,9 @@ fn hole_of(lens: &[u64], b: usize) -> Hole
 // The cells of src, len of them, at base b. An allocation that is there is replaced, and its room used again.
 pub fn place(w: &mut [u64], s: usize, at: usize, b: usize, src: &[u64], len: usize)
     requires { ⌜ Elder s at (now w) (slotsAt s at (now w)) ⌝ }
-    requires { ⌜ (b < s) × (length (now src) ≡ len * 3) ⌝ }
+    requires { ⌜ (b < s) × (length (now src) ≡ len * 3) × (wholeCells (now src) ≡ true) ⌝ }
     requires { ⌜ (inUse (set (slotsAt s at (now w)) b []) + len) * 3 ≤ length (now w) - at ⌝ }
-    ensures { λ _. ⌜ Placed s at b (now (w .entry)) (now (src .entry)) (now (w .exit)) ⌝ }
+    ensures { λ _. ⌜ Changed s at (now (w .entry)) (now (w .exit)) (set (slotsAt s at (now (w .entry))) b (cellsIn (now (src .entry)))) ⌝ }
 {
     let h = hole_of(&w[..s], b);
     words::splice(&mut w[at..], h.at, h.old, h.used, src);

@@ -21,7 +21,7 @@ use Rattle.trace.specs.Places.{ownAt}
 use Rattle.trace.specs.Leads.{beginsAt, leadsTo, Inside}
 use Rattle.trace.proofs.Closure.{walk-more}
 use Rattle.trace.proofs.Places.{in-length, own-flat}
-use Rattle.trace.proofs.Sums.{sum-within}
+use Rattle.words.proofs.Sums.{sum-within}
 
 -- n cells from the s-th, of m
 

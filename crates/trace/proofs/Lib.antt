@@ -3,5 +3,4 @@ pub mod Entries
 pub mod Closure
 pub mod Places
 pub mod Entering
-pub mod Sums
 pub mod Heaps

@@ -85,7 +85,7 @@ pub fn matches(masks: &[u64], count: usize, base: u64) -> bool
     false
 }
 
-// Enters the k-th root, if it is a pointer: its tag word is then 5 + 256 × heap.
+// Enters the k-th root, if it is a pointer: its heap then stands in the first word too.
 fn enter_root(roots: &[u64], k: usize, list: &mut [u64], count: usize) -> usize
     requires { ⌜ 3 * k + 2 < length (now roots) ⌝ }
     requires { ⌜ Room (now list) (enter samePtr (members count (now list)) (rootAt (now roots) k)) ⌝ }
@@ -93,10 +93,16 @@ fn enter_root(roots: &[u64], k: usize, list: &mut [u64], count: usize) -> usize
 {
     let at = 3 * k;
     let tag = roots[at];
-    if tag % 256 != 5 {
+    if tag % value::HEAP_STEP != value::POINTER {
         return count;
     }
-    enter_one(list, count, tag / 256, roots[at + 1], roots[at + 2])
+    enter_one(
+        list,
+        count,
+        tag / value::HEAP_STEP,
+        roots[at + 1],
+        roots[at + 2],
+    )
 }
 
 // Enters each root pointer in an empty list.
@@ -186,7 +192,7 @@ fn enter_own(cells: &[u64], k: usize, own: u64, list: &mut [u64], count: usize) 
     ensures { λ r. ⌜ members r (now (list .exit)) ≡ enter samePtr (members count (now (list .entry))) (ownAt own (now (cells .entry)) k) ⌝ }
 {
     let at = 3 * k;
-    if cells[at] != 256 * own + 5 {
+    if cells[at] != value::HEAP_STEP * own + value::POINTER {
         return count;
     }
     enter_one(list, count, own, cells[at + 1], cells[at + 2])
@@ -209,21 +215,6 @@ fn scan(cells: &[u64], from: usize, len: usize, own: u64, list: &mut [u64], coun
     n
 }
 
-// The sum of the first b lengths.
-fn sum_before(lens: &[u64], b: usize) -> usize
-    requires { ⌜ b ≤ length (now lens) ⌝ }
-    requires { ⌜ sum (take b (now lens)) < 2 ^ 64 ⌝ }
-    ensures { λ r. ⌜ r ≡ sum (take b (now (lens .entry))) ⌝ }
-{
-    let mut s: usize = 0;
-    let mut i = 0;
-    while i < b {
-        s += lens[i] as usize;
-        i += 1;
-    }
-    s
-}
-
 // The cell at which the heap's allocation b begins.
 fn begins_at(own: u64, lens: &[u64], b: usize) -> usize
     requires { ⌜ b ≤ length (now lens) ⌝ }
@@ -233,7 +224,7 @@ fn begins_at(own: u64, lens: &[u64], b: usize) -> usize
     if own == 0 {
         return b;
     }
-    sum_before(lens, b)
+    words::sum_first(lens, b)
 }
 
 // Visits entry p, whichever its heap: enters what the allocation at its base leads to, if there is one.

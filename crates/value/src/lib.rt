@@ -8,10 +8,17 @@ ghost use mir.Val.{toZ, ofZ};
 ghost use Rattle.model.specs.Records.{plain, cellWords, scalar, validPlain, validWords};
 ghost use Rattle.value.specs.Value.{valueCell, Spelled, Decodes};
 
-// A pointer's first word, by its heap.
-const YOUNG: u64 = 5;
+// A pointer's kind.
+pub const POINTER: u64 = 5;
 
-const ELDER: u64 = 261;
+// By how much the first words of the two heaps' pointers differ.
+pub const HEAP_STEP: u64 = 256;
+
+// The first word of a pointer into the nursery.
+const YOUNG: u64 = POINTER;
+
+// The first word of a pointer into the elder generation.
+pub const ELDER: u64 = POINTER + HEAP_STEP;
 
 pub struct Pointer {
     pub heap: u8,
@@ -138,7 +145,7 @@ pub fn value_of(tag: u64, payload: u64, offset: u64) -> Value
         _ => {
             let o = signed(offset);
             let p = Pointer {
-                heap: (tag / 256) as u8,
+                heap: (tag / HEAP_STEP) as u8,
                 base: payload,
                 offset: o,
             };
@@ -182,7 +189,7 @@ pub fn encode(v: Value) -> Words
         Value::Pointer(p) => {
             let w = unsigned(p.offset);
             Words {
-                tag: (p.heap as u64) * 256 + YOUNG,
+                tag: (p.heap as u64) * HEAP_STEP + POINTER,
                 payload: p.base,
                 offset: w,
             }

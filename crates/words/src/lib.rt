@@ -1,10 +1,11 @@
-// Words of one slice moved, copied, zeroed and replaced, in place. Each contract is one equation over the whole slice, so
-// that it also says which words stay.
+// Words of one slice moved, copied, zeroed and replaced, in place, and summed. Each contract is one equation over the whole
+// slice, so that it also says which words stay.
 ghost use mathlib.Core.Path.{_≡_};
 ghost use mathlib.Core.List.{_++_};
-ghost use Prim.Native.Nat.{_+_, _-_, _≤_};
+ghost use Prim.Native.Nat.{_+_, _-_, _^_, _≤_, _<_};
 ghost use lib.ListN.{length, take, drop, replicate};
 ghost use lib.Seq.{paste};
+ghost use Rattle.model.specs.Lists.{sum};
 ghost use Rattle.words.specs.Words.{padded};
 
 // Moves the n words from src on left to dst, the first one first.
@@ -119,4 +120,18 @@ pub fn splice_zeros(w: &mut [u64], at: usize, old: usize, used: usize, n: usize)
 {
     open_place(w, at, old, used, n);
     zero_words(w, at, n);
+}
+
+// The sum of the first n words. Every access to the elder runs this loop: it only adds, so that it can be done many at a time.
+pub fn sum_first(w: &[u64], n: usize) -> usize
+    requires { ⌜ (n ≤ length (now w)) × (sum (take n (now w)) < 2 ^ 64) ⌝ }
+    ensures { λ r. ⌜ r ≡ sum (take n (now (w .entry))) ⌝ }
+{
+    let mut s: usize = 0;
+    let mut i = 0;
+    while i < n {
+        s += w[i] as usize;
+        i += 1;
+    }
+    s
 }

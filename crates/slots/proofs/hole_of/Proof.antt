@@ -3,8 +3,8 @@ use Rattle.slots.proofs.Counts.{counts}
 use Rattle.slots.proofs.hole_of.Statement.{statement}
 use Rattle.slots.proofs.hole_of.Tie as tie
 
-start-of-requires : tie.Need-start-of-requires
-start-of-requires c κs = search needs
+sum-first-requires : tie.Need-sum-first-requires
+sum-first-requires c κs = search (counts, needs)
 
 mul-old : tie.Need-mul-old
 mul-old c = search needs
@@ -31,7 +31,7 @@ pub hole-of-spec : {M : Type 1} → statement M
 hole-of-spec =
     tie.close
     (tie.spec
-    start-of-requires
+    sum-first-requires
     mul-old
     shared-slice-read-old
     in-use-requires

@@ -15,8 +15,8 @@ shared-slice-read-n c = search needs
 returns-2 : tie.Need-returns-2
 returns-2 c = search (counts, needs)
 
-start-of-requires : tie.Need-start-of-requires
-start-of-requires c κs = search (counts, needs)
+sum-first-requires : tie.Need-sum-first-requires
+sum-first-requires c κs = search (counts, needs)
 
 add-cell-at : tie.Need-add-cell-at
 add-cell-at c = search (counts, needs)
@@ -35,7 +35,7 @@ read-old-spec =
     mul-n
     shared-slice-read-n
     returns-2
-    start-of-requires
+    sum-first-requires
     add-cell-at
     cell-at-requires
     returns-3)

@@ -1,7 +1,7 @@
 use native.Mathlib.Omega.{arith}
 use lib.ListN.{length-set}
 use borrow.Author.Needs.{needs}
-use Rattle.slots.proofs.Swaps.{swaps}
+use Rattle.slots.proofs.Swaps.{swap-kind, swap-payload, swap-offset, swap-hit}
 use Rattle.slots.proofs.swap_at.Statement.{statement}
 use Rattle.slots.proofs.swap_at.Tie as tie
 
@@ -21,7 +21,9 @@ add-if1 : tie.Need-add-if1
 add-if1 c = search needs
 
 returns : tie.Need-returns
-returns c = search (swaps, needs)
+returns c =
+    let s = c .before .before in
+    swap-kind _ _ _ _ _ _ (s .pre .1) (s .pre .0) (c .if1 .taken)
 
 add-if2 : tie.Need-add-if2
 add-if2 c = search needs
@@ -33,7 +35,9 @@ slice-read-if2 : tie.Need-slice-read-if2
 slice-read-if2 c = search needs
 
 returns-2 : tie.Need-returns-2
-returns-2 c = search (swaps, needs)
+returns-2 c =
+    let s = c .before .before .before .before in
+    swap-payload _ _ _ _ _ _ (s .pre .1) (s .pre .0) (c .if2 .taken)
 
 add-if3 : tie.Need-add-if3
 add-if3 c = search needs
@@ -45,7 +49,9 @@ slice-read-if3 : tie.Need-slice-read-if3
 slice-read-if3 c = search needs
 
 returns-3 : tie.Need-returns-3
-returns-3 c = search (swaps, needs)
+returns-3 c =
+    let s = c .before .before .before .before .before .before in
+    swap-offset _ _ _ _ _ _ (s .pre .1) (s .pre .0) (c .if3 .taken)
 
 mul-cells : tie.Need-mul-cells
 mul-cells c = search needs
@@ -75,7 +81,9 @@ same-length : tie.Need-same-length
 same-length c = search needs
 
 returns-4 : tie.Need-returns-4
-returns-4 c = search (swaps, needs)
+returns-4 c =
+    let s = c .before .before .before .before .before .before in
+    swap-hit _ _ _ _ _ _ (s .pre .1) (s .pre .0) (s .pre .2) (c .before .before .before .before .if1 .left) (c .before .before .if2 .left) (c .if3 .left)
 
 pub swap-at-spec : {M : Type 1} → statement M
 swap-at-spec =

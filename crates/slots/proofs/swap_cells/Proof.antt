@@ -2,7 +2,7 @@ use mathlib.Core.Logic.{⊎-elim}
 use Prim.Native.Nat.{_-_}
 use borrow.Author.Needs.{needs}
 use Rattle.trace.specs.Words.{pointer}
-use Rattle.slots.proofs.Swaps.{Swapping, swap-found, swap-missed, swaps}
+use Rattle.slots.proofs.Swaps.{Swapping, swap-found, swap-missed, swap-done, swaps}
 use Rattle.slots.proofs.swap_cells.Statement.{statement}
 use Rattle.slots.proofs.swap_cells.Tie as tie
 
@@ -34,7 +34,7 @@ same-length : tie.Need-same-length Inv-loop μ-loop
 same-length c = search (swaps, needs)
 
 returns : tie.Need-returns Inv-loop μ-loop
-returns c = search (swaps, needs)
+returns c = swap-done (c .before .loop .inv) (c .loop-test .left)
 
 pub swap-cells-spec : {M : Type 1} → statement M
 swap-cells-spec =

@@ -32,7 +32,7 @@ part-swap-cells-end : tie.Need-part-swap-cells-end
 part-swap-cells-end c = search (swapped, counts, needs)
 
 swap-cells-requires : tie.Need-swap-cells-requires
-swap-cells-requires c κs = search needs
+swap-cells-requires c κs = search (swapped, counts, needs)
 
 same-length : tie.Need-same-length
 same-length c = search needs

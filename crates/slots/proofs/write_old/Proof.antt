@@ -4,14 +4,14 @@ use Rattle.slots.proofs.Counts.{counts}
 use Rattle.slots.proofs.write_old.Statement.{statement}
 use Rattle.slots.proofs.write_old.Tie as tie
 
-slice-reshare-prefix-start-of : tie.Need-slice-reshare-prefix-start-of
-slice-reshare-prefix-start-of c = search needs
+slice-reshare-prefix-sum-first : tie.Need-slice-reshare-prefix-sum-first
+slice-reshare-prefix-sum-first c = search needs
 
-slice-aggregate-start-of : tie.Need-slice-aggregate-start-of
-slice-aggregate-start-of c = search (writes, counts, needs)
+slice-aggregate-sum-first : tie.Need-slice-aggregate-sum-first
+slice-aggregate-sum-first c = search (writes, counts, needs)
 
-start-of-requires : tie.Need-start-of-requires
-start-of-requires c κs = search (writes, counts, needs)
+sum-first-requires : tie.Need-sum-first-requires
+sum-first-requires c κs = search (writes, counts, needs)
 
 add-i : tie.Need-add-i
 add-i c = search (writes, counts, needs)
@@ -44,9 +44,9 @@ pub write-old-spec : {M : Type 1} → statement M
 write-old-spec =
     tie.close
     (tie.spec
-    slice-reshare-prefix-start-of
-    slice-aggregate-start-of
-    start-of-requires
+    slice-reshare-prefix-sum-first
+    slice-aggregate-sum-first
+    sum-first-requires
     add-i
     mul-copy-words
     sub-copy-words

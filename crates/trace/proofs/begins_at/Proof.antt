@@ -30,11 +30,11 @@ module _ (own : ℕ) (ls : List ℕ) (b : ℕ) (h : own ≡ 0 → ⊥) where
 returns : tie.Need-returns
 returns c = search young-begins
 
-sum-before-requires : tie.Need-sum-before-requires
-sum-before-requires c κs = (search needs, search old-fits)
+sum-first-requires : tie.Need-sum-first-requires
+sum-first-requires c κs = (search needs, search old-fits)
 
 returns-2 : tie.Need-returns-2
 returns-2 c = search old-is
 
 pub begins-at-spec : {M : Type 1} → statement M
-begins-at-spec = tie.close (tie.spec returns sum-before-requires returns-2)
+begins-at-spec = tie.close (tie.spec returns sum-first-requires returns-2)

@@ -10,35 +10,35 @@ use mir.Val.{Fits}
 use mir.Syntax.{w64}
 use borrow.Author.Needs.{needs}
 use Rattle.model.specs.Lists.{sum}
-use Rattle.trace.proofs.Sums.{sum-next, sum-within}
-use Rattle.trace.proofs.sum_before.Statement.{statement}
-use Rattle.trace.proofs.sum_before.Tie as tie
+use Rattle.words.proofs.Sums.{sum-next, sum-within}
+use Rattle.words.proofs.sum_first.Statement.{statement}
+use Rattle.words.proofs.sum_first.Tie as tie
 
-record Summed (ls : List ℕ) (b s i : ℕ) : Type 0 where
-  within : i ≤ b
-  is : s ≡ sum (take i ls)
+record Summed (w : List ℕ) (n s i : ℕ) : Type 0 where
+  within : i ≤ n
+  is : s ≡ sum (take i w)
 
-sum-begin : (ls : List ℕ) (b : ℕ) → Summed ls b 0 0
+sum-begin : (w : List ℕ) (n : ℕ) → Summed w n 0 0
 unfolding sum
-sum-begin ls b = record { within = omega arith; is = refl }
+sum-begin w n = record { within = omega arith; is = refl }
 
-module _ {ls : List ℕ} {b s i : ℕ} (v : Summed ls b s i) where
-  sum-fits : i < b → sum (take b ls) < 2 ^ 64 → Fits w64 (s + getD ls i 0)
+module _ {w : List ℕ} {n s i : ℕ} (v : Summed w n s i) where
+  sum-fits : i < n → sum (take n w) < 2 ^ 64 → Fits w64 (s + getD w i 0)
   sum-fits h l =
-      let e : sum (take i ls) + getD ls i 0 ≤ sum (take b ls) = rw (take-take i b ls (omega (arith, v .within)), getD-take) at (sum-within (take b ls) i) in
+      let e : sum (take i w) + getD w i 0 ≤ sum (take n w) = rw (take-take i n w (omega (arith, v .within)), getD-take) at (sum-within (take n w) i) in
       omega (arith, v .is)
 
-  sum-turn : i < b → Summed ls b (s + getD ls i 0) (i + 1)
-  sum-turn h = record { within = omega arith; is = rw (add-one, sum-next) (omega (arith, v .is)) }
+  sum-turn : i < n → Summed w n (s + getD w i 0) (i + 1)
+  sum-turn h = record { within = omega arith; is = rw add-one (omega (arith, sum-next w i, v .is)) }
 
-  sum-done : b ≤ i → s ≡ sum (take b ls)
-  sum-done h = v .is ∙ ap (λ (k : ℕ). sum (take k ls)) (le-antisymm (v .within) h)
+  sum-done : n ≤ i → s ≡ sum (take n w)
+  sum-done h = v .is ∙ ap (λ (k : ℕ). sum (take k w)) (le-antisymm (v .within) h)
 
 abbrev Inv-loop : tie.InvT-loop
-Inv-loop lens b s₀ i₀ s i = Summed lens b s i
+Inv-loop w n s₀ i₀ s i = Summed w n s i
 
 abbrev μ-loop : tie.MeasureT-loop
-μ-loop lens b s₀ i₀ s i = b - i
+μ-loop w n s₀ i₀ s i = n - i
 
 loop-holds : tie.Need-loop-holds Inv-loop μ-loop
 loop-holds c = search sum-begin
@@ -64,8 +64,8 @@ loop-again c = search sum-turn
 returns : tie.Need-returns Inv-loop μ-loop
 returns c = search sum-done
 
-pub sum-before-spec : {M : Type 1} → statement M
-sum-before-spec =
+pub sum-first-spec : {M : Type 1} → statement M
+sum-first-spec =
     tie.close
     (tie.spec
     Inv-loop

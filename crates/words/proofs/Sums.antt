@@ -1,4 +1,4 @@
--- The sum of the first lengths.
+-- The sum of the first words.
 use mathlib.Core.Path.{_≡_}
 use mathlib.Core.List.{List, [], _∷_}
 use Prim.Native.Nat.{ℕ, zero, suc, _+_, _≤_}
@@ -18,3 +18,6 @@ unfolding sum
 sum-within [] i = rw (take-nil i) (omega arith)
 sum-within (x ∷ ls) zero = omega arith
 sum-within (x ∷ ls) (suc i) = omega (arith, sum-within ls i)
+
+pub sum-front : (ls : List ℕ) (i : ℕ) → sum (take i ls) ≤ sum ls
+sum-front ls i = omega (arith, sum-within ls i)
