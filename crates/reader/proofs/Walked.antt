@@ -34,6 +34,7 @@ module _ {M : Type 1} {𝓤 : URA M} {H : Heap 𝓤} {A : Atoms 𝓤} (K : Type 
   number t w k v true h e = let is : vint w k ≡ v = cc in rw (← is) (lit t (subst T (sym h) tt))
   number t w k v false h e = let z : _≡_ {A = ℕ} 0 1 = cc in absurd (omega arith)
 
+  -- a local is entry n of the context
   abbrev rule : ℕ → (x : Operand) → Rule x
   rule n (copy (place i [])) = record { Asks = λ v. nth 𝓤 H A n Γ ≡ ‵ (fat fullShare (spotOf 𝓤 H E i .0) (spotOf 𝓤 H E i .1) 0 v); shows = λ t v e. load t (from t (stop t)) (look t n e) }
   rule n (copy (place i (s ∷ st))) = itself (copy (place i (s ∷ st)))
@@ -46,6 +47,5 @@ module _ {M : Type 1} {𝓤 : URA M} {H : Heap 𝓤} {A : Atoms 𝓤} (K : Type 
   rule n opdUnit = itself opdUnit
   rule n (ptrConst k) = itself (ptrConst k)
 
--- the local is entry n of the context
 pub gives : {M : Type 1} {𝓤 : URA M} {H : Heap 𝓤} {A : Atoms 𝓤} {K : Type 0} {W : Given 𝓤 H A} {Γ : List (Item 𝓤)} {E : Env 𝓤 H} → K → (n : ℕ) {x : Operand} (v : Val) → rule K W Γ E n x .Asks v → Opd K W Γ E x v
 gives {K = K} {W = W} {Γ = Γ} {E = E} t n {x} v e = rule K W Γ E n x .shows t v e
