@@ -1,5 +1,4 @@
 use borrow.Author.Needs.{needs}
-use mathlib.Core.Path.{refl}
 use Rattle.report.specs.Numbers.{numbers}
 use Rattle.report.proofs.words.Statement.{statement}
 use Rattle.report.proofs.words.Tie as tie
