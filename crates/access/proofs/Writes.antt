@@ -11,7 +11,7 @@ use mir.Syntax.{w64}
 use mir.Val.{ofZ}
 use borrow.Author.Tests.{ltb-true, lt-ltb, eqb-true}
 use Rattle.model.specs.Res.{Res, ok, refuse, _>>=_, ask}
-use Rattle.model.specs.Records.{Ptr, Cell, blank, cellWords, valid, validWords, wholeCells}
+use Rattle.model.specs.Records.{Ptr, Cell, blank, validWords, wholeCells}
 use Rattle.model.specs.Barrier.{Barrier, countIn, countOut}
 use Rattle.model.specs.Heap.{Nursery, Heap}
 use Rattle.model.specs.Image.{decode}
@@ -19,12 +19,12 @@ use Rattle.model.specs.Collector.{youngAt, oldAt, read, outYoung, writeYoung, w
 use Rattle.model.specs.Calls.{valueGood, writeOn, left}
 use Rattle.theorems.specs.Fit.{Image}
 use Rattle.theorems.specs.Does.{withYoung, withOld}
-use Rattle.theorems.proofs.Cells.{cell-valid, cell-words}
 use Rattle.theorems.proofs.Image.{image-decode}
 use Rattle.theorems.proofs.Lists.{and-left, and-right}
 use Rattle.value.specs.declared.Pointer.{Pointer}
 use Rattle.trace.specs.Words.{pointer}
-use Rattle.layout.specs.Elder.{withSlots, WrittenIn}
+use Rattle.slots.specs.Slots.{written}
+use Rattle.layout.specs.Elder.{withSlots, Turned}
 use Rattle.fields.specs.Fields.{Turns, onYoung, onOld, withBar, withOldBar, withCell, cellIn}
 use Rattle.access.specs.Access.{pointerOf, storedOutcome}
 use Rattle.access.specs.Counting.{outIf, recounted, countYoung, countOld, storeYoung, storeOld, Leaves, done, kept}
@@ -86,20 +86,6 @@ module _ (w : List ℕ) (e : valueGood w ≡ true) where
       go (a ∷ b ∷ []) p q = absurd (omega arith)
       go (a ∷ b ∷ o ∷ w) p q = and-left (validWords a b o) (wholeCells w) p
 
-  value-is : w ≡ cellWords (cellIn w ∷ [])
-  unfolding cellWords
-  value-is = go w value-valid value-length
-    where
-      go : (w : List ℕ) → validWords (getD w 0 0) (getD w 1 0) (getD w 2 0) ≡ true → length w ≡ 3 → w ≡ cellWords (cellIn w ∷ [])
-      go [] p q = absurd (omega arith)
-      go (a ∷ []) p q = absurd (omega arith)
-      go (a ∷ b ∷ []) p q = absurd (omega arith)
-      go (a ∷ b ∷ o ∷ []) p q = sym (cell-words a b o [] p)
-      go (a ∷ b ∷ o ∷ x ∷ w) p q = absurd (omega arith)
-
-  value-cell : valid (cellIn w) ≡ true
-  value-cell = cell-valid _ _ _ value-valid
-
 -- in the elder
 
 module _ {w : List ℕ} (b o : ℕ) {old new : Cell} (cell : List ℕ) {r : Stored} {v : List ℕ}
@@ -119,15 +105,15 @@ module _ {w : List ℕ} (b o : ℕ) {old new : Cell} (cell : List ℕ) {r : Stor
   unfolding countOld
   counted-old e = some-barrier (λ x. onOld (withOldBar x) h) (recounted 1 true old new (h .old .bar)) l e
 
-  pub old-there : r ≡ Done → o < length s → Image v (decode v) × ((o < length (getD (decode v .old .slots) b [])) × (length cell ≡ 3))
-  unfolding withOldBar withOld
-  old-there e u = let (x, m, i) = counted-old e in rw (image-decode i) (i, (u, value-length cell g))
+  pub old-there : r ≡ Done → o < length s → Image v (decode v) × ((o < length (getD (decode v .old .slots) b [])) × ((length cell ≡ 3) × (wholeCells cell ≡ true)))
+  unfolding withOldBar withOld valueGood
+  old-there e u = let (x, m, i) = counted-old e in rw (image-decode i) (i, (u, (value-length cell g, and-left (wholeCells cell) (eqb (length cell) 3) g)))
 
-  pub old-stored : {u : List ℕ} → r ≡ Done → WrittenIn b o v cell u → Leaves (storeOld b s o (cellIn cell) h) w Done u
+  pub old-stored : {u : List ℕ} → r ≡ Done → Turned (written b o cell) v u → Leaves (storeOld b s o (cellIn cell) h) w Done u
   unfolding withOldBar withOld withSlots
   old-stored e t =
       let (x, m, i) = counted-old e in
-      rw (store-is, m) (done (t .written (cellIn cell) (value-is cell g) (value-cell cell g) .turned _ i))
+      rw (store-is, m) (done (t .turned _ i))
 
   pub old-refused : (q : ℕ) → r ≡ Refused q → Leaves (storeOld b s o (cellIn cell) h) w (Refused q) v
   unfolding countOld

@@ -8,7 +8,7 @@ use lib.ListN.{length, getD, take, drop, length-take, length-drop}
 use Rattle.model.specs.Res.{Res}
 use Rattle.model.specs.Records.{cellWords, allValid, wholeCells}
 use Rattle.model.specs.Barrier.{Barrier, masks}
-use Rattle.model.specs.Heap.{Nursery, Sizes, part}
+use Rattle.model.specs.Heap.{Sizes, part}
 use Rattle.model.specs.Image.{imageLength, decode}
 use Rattle.model.specs.Calls.{cellsIn, scratchLength}
 use Rattle.theorems.specs.Fit.{Image}
@@ -29,6 +29,7 @@ use Rattle.elder.specs.declared.Swept.{Swept}
 use Rattle.nursery.specs.Steps.{collectedAnswer}
 use Rattle.nursery.specs.Steps as nursery
 use Rattle.nursery.specs.declared.Collected.{Collected}
+use Rattle.nursery.proofs.Parts.{promoted-words}
 use Rattle.cycle.specs.Scratch.{oldListAt, youngIn, partsIn, Saved, Front, SweptIn, CollectedIn}
 
 abbrev sizes : List ℕ → Sizes
@@ -143,11 +144,12 @@ module _ {w : List ℕ} (i : Image w (decode w)) {l : Layout} (p : Laid w l) whe
           let n : ℕ = getD (youngIn (sizes w) s .lens) b 0 in
           valid-all _ (λ c m. all-valid (cellsIn ws) (whole-valid ws (f .whole)) c (drop-in b (cellsIn ws) c (take-in n (drop b (cellsIn ws)) c m)))
 
-      module _ {words : List ℕ}
-          (is : (y : Nursery) → y .lens ≡ take (l .slots - l .lens) (drop (l .lens) s) → cellWords (y .cells) ≡ take (l .old - l .young) (drop (l .young) s) → words ≡ cellWords (part y b)) where
+      module _ {words : List ℕ} (is : words ≡ take (3 * getD (take (l .slots - l .lens) (drop (l .lens) s)) b 0) (drop (3 * b) (take (l .old - l .young) (drop (l .young) s)))) where
         words-are : words ≡ cellWords (partsIn (sizes w) s b)
         unfolding partsIn youngIn
-        words-are = is (youngIn (sizes w) s) (sym lens-are) (rw cells-are (whole-back _ (f .whole)))
+        words-are =
+            let cells : take (l .old - l .young) (drop (l .young) s) ≡ cellWords (youngIn (sizes w) s .cells) = cells-are ∙ sym (whole-back _ (f .whole)) in
+            is ∙ (λ j. take (3 * getD (lens-are j) b 0) (drop (3 * b) (cells j))) ∙ promoted-words (youngIn (sizes w) s) b
 
         pub part-whole : wholeCells words ≡ true
         part-whole = rw words-are (whole-words (partsIn (sizes w) s b) valid-part)

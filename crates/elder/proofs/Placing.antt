@@ -15,7 +15,7 @@ use Rattle.model.specs.Calls.{cellsIn}
 use Rattle.theorems.specs.Fit.{FitBarrier, Image}
 use Rattle.theorems.specs.Does.{Meets, Does, withOld}
 use Rattle.theorems.proofs.Barrier.{in-fit}
-use Rattle.theorems.proofs.Cells.{whole-back, whole-valid, whole-length}
+use Rattle.theorems.proofs.Cells.{whole-length}
 use Rattle.theorems.proofs.Does.{does-then, does-refused, does-same}
 use Rattle.theorems.proofs.Image.{image-decode}
 use Rattle.theorems.proofs.Res.{each-holds, holds-at}
@@ -26,7 +26,7 @@ use Rattle.barrier.specs.declared.Counting.{Counting}
 use Rattle.barrier.specs.declared.Counting.the-variants as counting
 use Rattle.barrier.specs.declared.Counted.{Counted}
 use Rattle.trace.proofs.Places.{in-length}
-use Rattle.layout.specs.Elder.{withSlots, Turned, PlacedIn, fitAnswer, fitFor}
+use Rattle.layout.specs.Elder.{withSlots, Turned, fitAnswer, fitFor}
 use Rattle.layout.specs.declared.Fit.{Fit}
 use Rattle.layout.specs.declared.Fit.the-variants as fit
 use Rattle.fields.specs.Fields.{Reads, Turns, onOld, withOldBar}
@@ -130,15 +130,15 @@ module _ (src : List ℕ) (g : wholeCells src ≡ true) (w : List ℕ) (r : Fit)
   place-none a = put-none (length cells) cells w r asked a
 
   module _ {b : ℕ} (a : r ≡ fit.At b) {u : List ℕ} {c : Counting} (d : Does (countStep cells) w (countingAnswer c) u) where
-    pub place-asks : c ≡ counting.Done → Image w (decode w) → Image u (decode u) × ((length src ≡ length src / 3 * 3) × (ok b ≡ fitFor (length src / 3) (decode u)))
+    pub place-asks : c ≡ counting.Done → Image w (decode w) → Image u (decode u) × (((length src ≡ length src / 3 * 3) × (wholeCells src ≡ true)) × (ok b ≡ fitFor (length src / 3) (decode u)))
     unfolding countingAnswer
     place-asks f i =
         let (j, k) = still-room (length src / 3) cells w r e a i (rw f at d) in
-        (j, (omega (arith, in-length src, whole-length src g), k))
+        (j, ((omega (arith, in-length src, whole-length src g), g), k))
 
-    pub place-done : {v : List ℕ} → c ≡ counting.Done → PlacedIn b u src v → Does (placeStep cells) w (placedAnswer (At b)) v
+    pub place-done : {v : List ℕ} → c ≡ counting.Done → Turned (λ ss. set ss b cells) u v → Does (placeStep cells) w (placedAnswer (At b)) v
     unfolding placeStep place placedAnswer countingAnswer
-    place-done f p = put-done (length cells) cells w r asked a (rw f at d) (p .placed cells (sym (whole-back src g)) (whole-valid src g))
+    place-done f t = put-done (length cells) cells w r asked a (rw f at d) t
 
     pub place-refused : {v : List ℕ} {q : ℕ} → c ≡ counting.Refused q → Does (placeStep cells) w (placedAnswer (Refused q)) v
     unfolding placeStep place placedAnswer countingAnswer

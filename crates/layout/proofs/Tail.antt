@@ -5,7 +5,7 @@ use mathlib.Core.List.{List, [], _∷_, _++_, map, append-assoc}
 use Prim.Native.Nat.{ℕ, _+_, _-_, _*_, _≤_, _<_}
 use native.Mathlib.Omega.{arith}
 use lib.Dec.{ltb}
-use lib.ListN.{length, getD, set, take, drop, replicate, length-append, length-drop, length-map}
+use lib.ListN.{length, getD, take, drop, replicate, length-append, length-drop, length-map}
 use lib.Seq.{take-at, drop-at, drop-drop}
 use Rattle.model.specs.Lists.{flat, keepIf}
 use Rattle.model.specs.Res.{ok, _>>=_, ask}
@@ -19,14 +19,14 @@ use Rattle.theorems.proofs.Cells.{words-length}
 use Rattle.theorems.proofs.Image.{image-decode, image-sized}
 use Rattle.words.specs.Words.{padded}
 use Rattle.words.proofs.Laws.{padded-length}
-use Rattle.slots.specs.Slots.{Packed, slotsOf, slotsAt, Elder, Changed, Written, Placed, readOld, ReadBy}
+use Rattle.slots.specs.Slots.{Packed, slotsOf, slotsAt, Elder, Changed, readOld, ReadBy}
 use Rattle.trace.specs.Words.{pointer}
 use Rattle.slots.specs.declared.Old.{Old}
 use Rattle.slots.proofs.Counts.{packed-is, elder-is, slots-length}
 use Rattle.slots.proofs.Parts.{lent, returned, lent-is, lent-length, returned-is}
 use Rattle.slots.proofs.Changes.{joint-cells, joint-elder, joint-changed}
 use Rattle.layout.specs.Places.{Laid}
-use Rattle.layout.specs.Elder.{withSlots, Turned, WrittenIn, PlacedIn}
+use Rattle.layout.specs.Elder.{withSlots, Turned}
 use Rattle.layout.specs.declared.places.Layout.{Layout}
 
 -- an image up to the elder's lengths, and from there on
@@ -185,10 +185,4 @@ module _ {w : List ℕ} {l : Layout} (p : Laid w l) where
       → length t ≡ length (lent (l .slots) w) → Turned g w (returned (l .slots) w t)
   tail-turned c k = record { turned = λ h i. image-out i p (rw (slots-at-is i p) at c) k }
 
-  pub tail-written : {b o : ℕ} {cell t : List ℕ} → Written (l .s) (l .old - l .slots) b o (lent (l .slots) w) cell t → length t ≡ length (lent (l .slots) w) → WrittenIn b o w cell (returned (l .slots) w t)
-  tail-written {b} {o} q k = record { written = λ c e u. tail-turned {g = λ ss. set ss b (set (getD ss b []) o c)} (q .written c e u) k }
-
-  pub tail-placed : {b : ℕ} {src t : List ℕ} → Placed (l .s) (l .old - l .slots) b (lent (l .slots) w) src t → length t ≡ length (lent (l .slots) w) → PlacedIn b w src (returned (l .slots) w t)
-  tail-placed {b} q k = record { placed = λ cs e u. tail-turned {g = λ ss. set ss b cs} (q .placed cs e u) k }
-
-pub ruleset tails = (image-says-sized, turned-image, tail-formed, hits-are, parts-formed, read-is, tail-turned, tail-written, tail-placed)
+pub ruleset tails = (image-says-sized, turned-image, tail-formed, hits-are, parts-formed, read-is, tail-turned)

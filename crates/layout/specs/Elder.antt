@@ -1,13 +1,11 @@
 -- What an operation on the elder answers, and what it makes of an image.
-use mathlib.Core.Path.{_≡_}
-use mathlib.Core.Bool.{true}
-use mathlib.Core.List.{List, [], _∷_}
+use mathlib.Core.List.{List}
 use Prim.Native.Nat.{ℕ, _+_}
 use lib.Dec.{ltb, leb}
-use lib.ListN.{length, getD, set}
+use lib.ListN.{length, set}
 use Rattle.model.specs.Lists.{places, sum}
 use Rattle.model.specs.Res.{Res, ok, refuse, _>>=_, ask}
-use Rattle.model.specs.Records.{Cell, cellWords, valid, allValid}
+use Rattle.model.specs.Records.{Cell}
 use Rattle.model.specs.Heap.{Heap}
 use Rattle.model.specs.Elder.{newBase, room}
 use Rattle.theorems.specs.Fit.{Image}
@@ -20,14 +18,6 @@ withSlots ss h = record { size = h .size; young = h .young; old = record { colls
 -- w became v: whatever heap w is the image of, v is the image of that heap with the slots that f makes of its own
 pub record Turned (f : List (List Cell) → List (List Cell)) (w v : List ℕ) : Type 0 where
   pub turned : (h : Heap) → Image w h → Image v (withSlots (f (h .old .slots)) h)
-
--- the words of one cell written at (b, o), whatever cell it is
-pub record WrittenIn (b o : ℕ) (w cell v : List ℕ) : Type 0 where
-  pub written : (c : Cell) → cell ≡ cellWords (c ∷ []) → valid c ≡ true → Turned (λ ss. set ss b (set (getD ss b []) o c)) w v
-
--- the words src placed at base b, whatever cells they are
-pub record PlacedIn (b : ℕ) (w src v : List ℕ) : Type 0 where
-  pub placed : (cs : List Cell) → src ≡ cellWords cs → allValid cs ≡ true → Turned (λ ss. set ss b cs) w v
 
 -- `Fit`: the new base, or question 7
 unfoldable pub fitAnswer : Fit → Res ℕ

@@ -3,19 +3,21 @@
 pub mod places;
 
 ghost use mathlib.Core.Path.{_≡_};
+ghost use mathlib.Core.Bool.{true};
 ghost use mathlib.Core.List.{[], map};
 ghost use Prim.Native.Nat.{_*_, _≤_, _<_};
 ghost use lib.ListN.{length, getD, set, replicate};
 ghost use Rattle.model.specs.Lists.{keepIf, flat, sum};
 ghost use Rattle.model.specs.Res.{ok};
-ghost use Rattle.model.specs.Records.{blank};
+ghost use Rattle.model.specs.Records.{blank, wholeCells};
 ghost use Rattle.model.specs.Image.{decode};
 ghost use Rattle.model.specs.Elder.{keep};
 ghost use Rattle.model.specs.Collector.{holds, swapCell, read};
+ghost use Rattle.model.specs.Calls.{cellsIn};
 ghost use Rattle.theorems.specs.Fit.{Image};
 ghost use Rattle.trace.specs.Words.{pointer, members};
-ghost use Rattle.slots.specs.Slots.{ReadBy};
-ghost use Rattle.layout.specs.Elder.{Turned, WrittenIn, PlacedIn, fitAnswer, fitFor, fitWords};
+ghost use Rattle.slots.specs.Slots.{ReadBy, written};
+ghost use Rattle.layout.specs.Elder.{Turned, fitAnswer, fitFor, fitWords};
 
 // The elder's cell at (base, offset).
 pub fn read_elder(image: &[u64], base: u64, offset: u64) -> slots::Old
@@ -32,8 +34,9 @@ pub fn read_elder(image: &[u64], base: u64, offset: u64) -> slots::Old
 // The three words of cell take the place of the elder's cell at (base, offset).
 pub fn write_elder(image: &mut [u64], base: u64, offset: u64, cell: &[u64])
     requires { ⌜ Image (now image) (decode (now image)) ⌝ }
-    requires { ⌜ (offset < length (getD (decode (now image) .old .slots) base [])) × (length (now cell) ≡ 3) ⌝ }
-    ensures { λ _. ⌜ WrittenIn base offset (now (image .entry)) (now (cell .entry)) (now (image .exit)) ⌝ }
+    requires { ⌜ offset < length (getD (decode (now image) .old .slots) base []) ⌝ }
+    requires { ⌜ (length (now cell) ≡ 3) × (wholeCells (now cell) ≡ true) ⌝ }
+    ensures { λ _. ⌜ Turned (written base offset (now (cell .entry))) (now (image .entry)) (now (image .exit)) ⌝ }
 {
     let l = places::layout_of(image);
     let from = l.slots;
@@ -84,9 +87,9 @@ pub fn room_for(image: &[u64], len: usize) -> Fit
 // The len cells of src become the allocation at b, the base that `room_for` answered.
 pub fn put_cells(image: &mut [u64], b: usize, src: &[u64], len: usize)
     requires { ⌜ Image (now image) (decode (now image)) ⌝ }
-    requires { ⌜ length (now src) ≡ len * 3 ⌝ }
+    requires { ⌜ (length (now src) ≡ len * 3) × (wholeCells (now src) ≡ true) ⌝ }
     requires { ⌜ ok b ≡ fitFor len (decode (now image)) ⌝ }
-    ensures { λ _. ⌜ PlacedIn b (now (image .entry)) (now (src .entry)) (now (image .exit)) ⌝ }
+    ensures { λ _. ⌜ Turned (λ ss. set ss b (cellsIn (now (src .entry)))) (now (image .entry)) (now (image .exit)) ⌝ }
 {
     let l = places::layout_of(image);
     let from = l.slots;

@@ -101,8 +101,6 @@ words-drop zero cs = refl
 words-drop (suc b) [] = let e : 3 * suc b ≡ suc (3 * b + 2) = omega arith in rw e
 words-drop (suc b) (c ∷ cs) = let e : 3 * suc b ≡ suc (suc (suc (3 * b))) = omega arith in rw (e, words-cons c cs) (words-drop b cs)
 
-pub promoted-words : (lens cells : List ℕ) (b : ℕ) (y : Nursery) → y .lens ≡ lens → cellWords (y .cells) ≡ cells → take (3 * b + 3 * getD lens b 0 - 3 * b) (drop (3 * b) cells) ≡ cellWords (part y b)
+pub promoted-words : (y : Nursery) (b : ℕ) → take (3 * getD (y .lens) b 0) (drop (3 * b) (cellWords (y .cells))) ≡ cellWords (part y b)
 unfolding part
-promoted-words lens cells b y same is =
-    let e : 3 * b + 3 * getD lens b 0 - 3 * b ≡ 3 * getD lens b 0 = omega arith in
-    rw (e, same, ← is, words-drop b (y .cells), words-take (getD lens b 0) (drop b (y .cells)))
+promoted-words y b = rw (words-drop b (y .cells), words-take (getD (y .lens) b 0) (drop b (y .cells)))

@@ -2,11 +2,9 @@
 use image::counts::MOST;
 use layout::places;
 ghost use mathlib.Core.Path.{_≡_};
-ghost use Prim.Native.Nat.{ℕ, _+_, _-_, _*_, _/_, _≤_, _<_};
+ghost use Prim.Native.Nat.{_+_, _-_, _*_, _/_, _≤_, _<_};
 ghost use lib.Dec.{ltb};
-ghost use lib.ListN.{length, getD};
-ghost use Rattle.model.specs.Records.{cellWords};
-ghost use Rattle.model.specs.Heap.{Nursery, part};
+ghost use lib.ListN.{length, getD, take, drop};
 ghost use Rattle.model.specs.Image.{decode};
 ghost use Rattle.model.specs.Nursery.{allAllocated};
 ghost use Rattle.model.specs.Calls.{cellsIn};
@@ -90,7 +88,7 @@ pub fn collect(image: &mut [u64], roots: &[u64], masks: &[u64], list: &mut [u64]
 pub fn promoted<'a>(lens: &[u64], cells: &'a [u64], base: usize) -> &'a [u64]
     requires { ⌜ base < length (now lens) ⌝ }
     requires { ⌜ 3 * (base + getD (now lens) base 0) ≤ length (now cells) ⌝ }
-    ensures { λ r. ⌜ ((y : Nursery) → y .lens ≡ now (lens .entry) → cellWords (y .cells) ≡ now (cells .entry) → now r ≡ cellWords (part y base)) ⌝ }
+    ensures { λ r. ⌜ now r ≡ take (3 * getD (now (lens .entry)) base 0) (drop (3 * base) (now (cells .entry))) ⌝ }
 {
     let from = 3 * base;
     let end = from + 3 * lens[base] as usize;

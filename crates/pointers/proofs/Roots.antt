@@ -14,7 +14,6 @@ use Rattle.theorems.proofs.Cells.{whole-words, words-in, whole-back, whole-vali
 use Rattle.theorems.proofs.Contents.{valid-all, all-valid, valid-swap}
 use Rattle.trace.specs.Words.{tab}
 use Rattle.trace.proofs.Entries.{tab-cons, tab-none}
-use Rattle.slots.specs.Slots.{Swapped}
 use Rattle.pointers.specs.Steps.{moveAt, movesIn}
 
 -- i were made, and the rest leads from w to what all make of w₀
@@ -35,9 +34,9 @@ module _ {list bases : List ℕ} {count : ℕ} where
     unfolding swapRoots
     roots-end e = sym (whole-back w (l .cells)) ∙ ap cellWords (rw (tab-none (moveAt list bases) i count e) at (l .leads))
 
-    pub roots-turn : i < count → {v : List ℕ} {r : ℕ} → length v ≡ length w → Swapped (moveAt list bases i) n w v r → RootsLeft w₀ list bases count n v (i + 1)
+    pub roots-turn : i < count → {v : List ℕ} → length v ≡ length w → v ≡ cellWords (map (swapCell (moveAt list bases i)) (cellsIn w)) → RootsLeft w₀ list bases count n v (i + 1)
     unfolding swapRoots
-    roots-turn more {v} s p = record {
+    roots-turn more {v} s is = record {
       within = omega arith;
       cells = rw is (whole-words _ good);
       same = s ∙ l .same;
@@ -47,9 +46,6 @@ module _ {list bases : List ℕ} {count : ℕ} where
       where
         cs : List Cell
         cs = cellsIn w
-
-        is : v ≡ cellWords (map (swapCell (moveAt list bases i)) cs)
-        is = p .swapped cs (omega (arith, whole-length w (l .cells), l .size)) (whole-valid w (l .cells)) (sym (whole-back w (l .cells))) .0
 
         good : allValid (map (swapCell (moveAt list bases i)) cs) ≡ true
         good = valid-all _ (valid-swap (moveAt list bases i) cs (all-valid cs (whole-valid w (l .cells))))

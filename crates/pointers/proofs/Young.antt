@@ -1,5 +1,6 @@
 -- The nursery's cells below the cursor, as they are lent to be changed and as they come back.
 use mathlib.Core.Path.{_≡_, sym, ap, _∙_}
+use mathlib.Core.Bool.{true}
 use mathlib.Core.List.{List, _++_, map, append-assoc}
 use Prim.Native.Nat.{ℕ, _+_, _-_, _*_, _≤_}
 use native.Mathlib.Omega.{arith}
@@ -7,18 +8,18 @@ use lib.ListN.{length, take, drop, length-append, length-map, take-append-drop}
 use lib.Seq.{length-take-le, take-at, drop-at, take-take}
 use borrow.Rule.Slice.PartMut.{putMid}
 use Rattle.model.specs.Lists.{keepIf, flat}
-use Rattle.model.specs.Records.{Ptr, Cell, cellWords}
+use Rattle.model.specs.Records.{Ptr, Cell, cellWords, allValid, wholeCells}
 use Rattle.model.specs.Heap.{Sizes, Nursery, Heap}
 use Rattle.model.specs.Image.{sizesOf, decode}
 use Rattle.model.specs.Collector.{holds, swapCell}
+use Rattle.model.specs.Calls.{cellsIn}
 use Rattle.theorems.specs.Fit.{FitNursery, Image}
 use Rattle.theorems.specs.Does.{withYoung}
-use Rattle.theorems.proofs.Cells.{words-length, valid-append}
+use Rattle.theorems.proofs.Cells.{words-length, valid-append, whole-words, words-in}
 use Rattle.theorems.proofs.Contents.{Valid, valid-all, all-valid, valid-swap}
 use Rattle.theorems.proofs.Lists.{take-in, drop-in}
 use Rattle.theorems.proofs.Parts.{header, partsOf, encode-parts}
 use Rattle.theorems.proofs.Tiles.{cursor-le}
-use Rattle.slots.specs.Slots.{Swapped}
 use Rattle.slots.proofs.Flat.{words-append}
 use Rattle.layout.specs.Places.{Laid}
 use Rattle.layout.specs.declared.places.Layout.{Layout}
@@ -92,24 +93,31 @@ module _ {w : List ℕ} {l : Layout} (p : Laid w l) {k : ℕ} (at-cursor : Reads
         let parts : d ≡ a ++ (b ++ drop full d) = sym (take-append-drop full d) ∙ ap (λ (x : List ℕ). x ++ drop full d) all-are ∙ append-assoc a b (drop full d) in
         ap (drop size) parts ∙ drop-at a (b ++ drop full d) size size-is
 
+    below-valid : allValid (take k cs) ≡ true
+    below-valid = valid-all _ (λ c n. all-valid cs (i .fit .young .valid) c (take-in k cs c n))
+
+    pub below-whole : wholeCells (take size (drop (l .young) w)) ≡ true
+    below-whole = rw below-are (whole-words (take k cs) below-valid)
+
+    below-cells : cellsIn (take size (drop (l .young) w)) ≡ take k cs
+    below-cells = rw below-are (words-in (take k cs) below-valid)
+
     put-is : (ys : List ℕ) → putMid (l .young) size w ys ≡ putMid (l .young) full w (ys ++ cellWords (drop k cs))
     put-is ys = rw (rest-is, append-assoc)
 
-    module _ {m : Ptr × ℕ} {ys : List ℕ} {r : ℕ} (c : Swapped m k (take size (drop (l .young) w)) ys r) where
-      made : (ys ≡ cellWords (map (swapCell m) (take k cs))) × (r ≡ length (keepIf (holds (m .0)) (take k cs)))
-      made = c .swapped (take k cs) (length-take-le k cs few) (valid-all _ (λ d n. all-valid cs (i .fit .young .valid) d (take-in k cs d n))) below-are
-
+    module _ (m : Ptr × ℕ) {ys : List ℕ} (e : ys ≡ cellWords (map (swapCell m) (cellsIn (take size (drop (l .young) w))))) where
       swapped-image : Image (putMid (l .young) size w ys) (onYoung (swappedYoung m) h)
       unfolding partsOf header flat withYoung swappedYoung
       swapped-image =
           let cells : ys ++ cellWords (drop k cs) ≡ cellWords (map (swapCell m) (take (h .young .cursor) cs) ++ drop (h .young .cursor) cs) =
-          rw (made .0, ← words-append, at-cursor .reads h i) in
+          rw (e, below-cells, ← words-append, at-cursor .reads h i) in
           record {
             is = put-is ys ∙ young-cells-put i (ys ++ cellWords (drop k cs)) _ stand ∙ rw cells (sym (encode-parts (onYoung (swappedYoung m) h)));
             fit = record { sizes = i .fit .sizes; young = swapped-fit (h .size) (h .young) m (i .fit .young); old = i .fit .old };
           }
 
   -- the image with the changed cells, and how many they are
-  pub young-swapped : {m : Ptr × ℕ} {ys : List ℕ} {r : ℕ} → Image w (decode w) → Swapped m k (take size (drop (l .young) w)) ys r
-      → Turns (onYoung (swappedYoung m)) w (putMid (l .young) size w ys) × (r ≡ length (keepIf (holds (m .0)) (take (decode w .young .cursor) (decode w .young .cells))))
-  young-swapped i c = (record { turns = λ h j. swapped-image j c }, rw (at-cursor .reads (decode w) i) (made i c .1))
+  module _ (i : Image w (decode w)) (m : Ptr × ℕ) {ys : List ℕ} {r : ℕ}
+      (c : (ys ≡ cellWords (map (swapCell m) (cellsIn (take size (drop (l .young) w))))) × (r ≡ length (keepIf (holds (m .0)) (cellsIn (take size (drop (l .young) w)))))) where
+    pub young-swapped : Turns (onYoung (swappedYoung m)) w (putMid (l .young) size w ys) × (r ≡ length (keepIf (holds (m .0)) (take (decode w .young .cursor) (decode w .young .cells))))
+    young-swapped = (record { turns = λ h j. swapped-image j m (c .0) }, rw (at-cursor .reads (decode w) i, ← below-cells i) (c .1))

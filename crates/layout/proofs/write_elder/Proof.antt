@@ -24,7 +24,7 @@ part-write-old-end c = search needs
 write-old-requires : tie.Need-write-old-requires
 write-old-requires c κs =
     let start = c .before .before .before .before .before .before in
-    (search (tails, needs), (inside-slot (start .pre .0) (c .before .before .layout-of .ensures) _ _ (start .pre .1 .0), search needs))
+    (search (tails, needs), (inside-slot (start .pre .0) (c .before .before .layout-of .ensures) _ _ (start .pre .1 .0), start .pre .1 .1))
 
 same-length : tie.Need-same-length
 same-length c = search needs

@@ -1,5 +1,8 @@
+use mathlib.Core.Path.{_≡_, ap}
+use Prim.Native.Nat.{ℕ, _+_, _-_, _*_}
+use native.Mathlib.Omega.{arith}
+use lib.ListN.{getD, take, drop}
 use borrow.Author.Needs.{needs}
-use Rattle.nursery.proofs.Parts.{promoted-words}
 use Rattle.nursery.proofs.promoted.Statement.{statement}
 use Rattle.nursery.proofs.promoted.Tie as tie
 
@@ -31,7 +34,11 @@ part-result-end : tie.Need-part-result-end
 part-result-end c = search needs
 
 returns : tie.Need-returns
-returns c = promoted-words _ _ _
+returns c =
+    let a = c .before .before .args in
+    let len : ℕ = getD (a .lens .now) (a .base) 0 in
+    let size : 3 * a .base + 3 * len - 3 * a .base ≡ 3 * len = omega arith in
+    ap (λ (n : ℕ). take n (drop (3 * a .base) (a .cells .now))) size
 
 pub promoted-spec : {M : Type 1} → statement M
 promoted-spec =

@@ -54,7 +54,7 @@ loop-again : tie.Need-loop-again Inv-loop μ-loop
 unfolding moveAt
 loop-again c =
     let t = c .before .before .before .before .before .before .before in
-    roots-turn (t .before .loop .inv) (t .loop-test .taken) (c .before .roots .given) (c .before .before .swap-cells .ensures)
+    roots-turn (t .before .loop .inv) (t .loop-test .taken) (c .before .roots .given) (c .before .before .swap-cells .ensures .0)
 
 same-length : tie.Need-same-length Inv-loop μ-loop
 same-length c = search needs

@@ -1,7 +1,7 @@
 use borrow.Author.Needs.{needs}
 use native.Mathlib.Omega.{arith}
 use Rattle.layout.proofs.Tail.{image-says-sized}
-use Rattle.pointers.proofs.Young.{end-inside, young-swapped}
+use Rattle.pointers.proofs.Young.{end-inside, below-whole, young-swapped}
 use Rattle.pointers.proofs.swap_young.Statement.{statement}
 use Rattle.pointers.proofs.swap_young.Tie as tie
 
@@ -30,7 +30,9 @@ part-swap-cells-end : tie.Need-part-swap-cells-end
 part-swap-cells-end c = end-inside (c .layout-of .ensures) (c .before .before .cursor .ensures) (c .before .before .before .before .before .pre)
 
 swap-cells-requires : tie.Need-swap-cells-requires
-swap-cells-requires c κs = search needs
+swap-cells-requires c κs =
+    let l = c .before in
+    (search needs, below-whole (l .layout-of .ensures) (l .before .before .cursor .ensures) (l .before .before .before .before .before .pre), search needs)
 
 same-length : tie.Need-same-length
 same-length c = search needs
@@ -38,7 +40,7 @@ same-length c = search needs
 returns : tie.Need-returns
 returns c =
     let l = c .before .before .before .before in
-    young-swapped (l .layout-of .ensures) (l .before .before .cursor .ensures) (l .before .before .before .before .before .pre) (c .before .before .swap-cells .ensures)
+    young-swapped (l .layout-of .ensures) (l .before .before .cursor .ensures) (l .before .before .before .before .before .pre) _ (c .before .before .swap-cells .ensures)
 
 pub swap-young-spec : {M : Type 1} → statement M
 swap-young-spec =
