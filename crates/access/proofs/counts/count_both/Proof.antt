@@ -11,13 +11,13 @@ use Rattle.access.proofs.counts.count_both.Tie as tie
 -- the two steps
 
 out-is : (c : tie.After-count-out) → counted (c .count-out .result) ≡ countOut (c .before .before .before .before .args .own) (valueCell (c .before .before .before .before .args .old)) (barrierOf (c .before .barrier-of .result))
-out-is c = c .count-out .ensures
+out-is c = c .count-out .ensures .counted
 
 out-done : (c : tie.After-less) → countOut (c .before .before .before .before .before .before .before .args .own) (valueCell (c .before .before .before .before .before .before .before .args .old)) (barrierOf (c .before .before .before .before .barrier-of .result)) ≡ ok (barrierOf (c .before .before .before .count-out .result .barrier))
 out-done c = step-done _ (out-is (c .before .before .before)) (c .before .enum-told .given .1)
 
 in-is : (c : tie.After-count-in) → counted (c .count-in .result) ≡ countIn (c .before .before .before .before .before .before .before .before .args .own) (valueCell (c .before .before .before .before .before .before .before .before .args .new)) (barrierOf (c .before .before .before .before .count-out .result .barrier))
-in-is c = c .count-in .ensures
+in-is c = c .count-in .ensures .counted
 
 barrier-of-requires : tie.Need-barrier-of-requires
 barrier-of-requires c κs = search needs
