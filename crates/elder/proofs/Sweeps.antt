@@ -7,17 +7,15 @@ use native.Mathlib.Omega.{arith}
 use lib.Dec.{ltb}
 use lib.ListN.{length}
 use borrow.Author.Tests.{lt-ltb, le-ltb}
-use Rattle.model.specs.Lists.{places, keepIf}
 use Rattle.model.specs.Res.{Res, ok, refuse, _>>=_, ask}
-use Rattle.model.specs.Reach.{enter, walk, closure}
-use Rattle.model.specs.Records.{Ptr, Cell, samePtr, pointers}
-use Rattle.model.specs.Barrier.{Barrier, most, matches}
+use Rattle.model.specs.Records.{Ptr, Cell}
+use Rattle.model.specs.Barrier.{Barrier, most}
 use Rattle.model.specs.Heap.{Elder, Heap}
 use Rattle.model.specs.Image.{decode}
-use Rattle.model.specs.Nursery.{matched}
-use Rattle.model.specs.Elder.{oldStart, oldStep, oldMembers, keep, countDropped, sweep, collectOld}
+use Rattle.model.specs.Elder.{oldMembers, keep, countDropped, sweep, collectOld}
 use Rattle.theorems.specs.Fit.{FitBarrier, Image}
 use Rattle.theorems.specs.Does.{Does, withOld}
+use Rattle.theorems.proofs.Members.{no-old}
 use Rattle.theorems.proofs.Elder.{sweep-good}
 use Rattle.theorems.proofs.Image.{image-decode}
 use Rattle.theorems.proofs.Kept.{fit-good}
@@ -121,20 +119,6 @@ module _ (roots : List Cell) (ms : List ℕ) where
 
 -- `collect_all`: no roots and no masks, no members
 
-pub none-matched : (own : ℕ) (bs : List ℕ) → matched own [] bs ≡ []
-unfolding matched keepIf matches
-none-matched own [] = refl
-none-matched own (b ∷ bs) = none-matched own bs
-
-pub none-walked : (step : Ptr → List Ptr) (k : ℕ) → closure samePtr step k [] ≡ []
-unfolding closure walk enter
-none-walked step zero = refl
-none-walked step (suc k) = refl
-
-no-members : (e : Elder) → oldMembers e [] [] ≡ []
-unfolding oldMembers oldStart pointers
-no-members e = rw (none-matched 1 (places 0 _)) (none-walked (oldStep e) _)
-
 pub with-none : {w : List ℕ} {r : Swept} {v : List ℕ} (list : List ℕ) → Collects (collectWith (members 0 list)) w r v → Collects (collectStep [] []) w r v
 unfolding members tab
-with-none list s = record { does = with-members [] [] [] (λ h i. sym (no-members (h .old))) (s .does); kept = s .kept }
+with-none list s = record { does = with-members [] [] [] (λ h i. sym (no-old (h .old))) (s .does); kept = s .kept }

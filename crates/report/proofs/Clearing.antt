@@ -5,38 +5,34 @@ use Prim.Native.Nat.{ℕ, _+_, _≤_, _<_}
 use native.Mathlib.Omega.{arith}
 use lib.ListN.{length, getD}
 use borrow.Author.Tests.{lt-ltb, le-ltb, le-leb}
-use Rattle.model.specs.Lists.{places, keepIf}
+use Rattle.model.specs.Lists.{keepIf}
 use Rattle.model.specs.Res.{Res, ok, refuse, _>>=_}
-use Rattle.model.specs.Records.{Ptr, pointers}
+use Rattle.model.specs.Records.{Ptr}
 use Rattle.model.specs.Barrier.{most}
 use Rattle.model.specs.Heap.{Nursery, Elder, Heap}
 use Rattle.model.specs.Image.{decode}
-use Rattle.model.specs.Nursery.{youngStart, youngStep, youngMembers, sort, survivors, allAllocated, emptied, collectYoung}
+use Rattle.model.specs.Nursery.{sort, survivors, allAllocated, emptied, collectYoung}
 use Rattle.model.specs.Elder.{collectOld}
 use Rattle.model.specs.Collector.{statistics, report}
 use Rattle.model.specs.Calls.{Outcome, reported}
 use Rattle.theorems.specs.Fit.{Image}
 use Rattle.theorems.specs.Does.{Meets, withYoung, withOld}
 use Rattle.theorems.proofs.Image.{image-decode}
+use Rattle.theorems.proofs.Members.{no-young}
 use Rattle.fields.specs.Fields.{Reads, Turns, onYoung}
 use Rattle.fields.proofs.Parts.{most-is}
 use Rattle.elder.specs.Steps.{sweptAnswer, Collects, collectStep}
 use Rattle.elder.specs.declared.Swept.{Swept}
 use Rattle.elder.specs.declared.Swept.the-variants as swept
-use Rattle.elder.proofs.Sweeps.{none-matched, none-walked}
 use Rattle.report.specs.Numbers.{numbers, reportOutcome}
 use Rattle.report.specs.declared.Statistics.{Statistics}
 use Rattle.report.specs.declared.Reported.the-variants.{Taken, Refused}
 
 -- the nursery's
 
-no-members : (y : Nursery) → youngMembers y [] [] ≡ []
-unfolding youngMembers youngStart pointers
-no-members y = rw (none-matched 0 (places 0 (y .lens))) (none-walked (youngStep y) _)
-
 young-collected : (y : Nursery) → y .colls < most → y .proms ≤ most → collectYoung y [] [] ≡ ok ([], emptied y 0)
 unfolding collectYoung survivors sort keepIf allAllocated
-young-collected y small few = rw (no-members y, lt-ltb (y .colls) most small, le-leb (y .proms + 0) most (omega arith))
+young-collected y small few = rw (no-young y, lt-ltb (y .colls) most small, le-leb (y .proms + 0) most (omega arith))
 
 -- the elder's, by its answer
 

@@ -6,11 +6,10 @@ use native.Mathlib.Omega.{arith}
 use Rattle.model.specs.Res.{refuse}
 use Rattle.model.specs.Image.{decode}
 use Rattle.model.specs.Collector.{report}
-use Rattle.model.specs.Calls.{Outcome, opened, reported, reportCall}
+use Rattle.model.specs.Calls.{Outcome, reported, reportCall}
 use Rattle.theorems.specs.Fit.{Image}
-use Rattle.theorems.specs.Numbered.{Numbered, numbered}
-use Rattle.theorems.proofs.Image.{image-sized}
-use Rattle.theorems.proofs.Numbered.{report-call-numbered}
+use Rattle.theorems.proofs.Numbered.{report-refusal-positive}
+use Rattle.theorems.proofs.Doors.{report-on-image}
 use Rattle.report.specs.Numbers.{reportOutcome, questionOf, recordOf, recordAnswer, Fills}
 use Rattle.report.specs.declared.Statistics.{Statistics}
 use Rattle.report.specs.declared.Reported.{Reported}
@@ -21,17 +20,10 @@ abbrev pub Positive : Outcome → Type 0
 Positive o = (q : ℕ) → o .answer ≡ refuse q → 0 < q
 
 pub call-positive : (w : List ℕ) → Positive (reportCall w)
-call-positive w q e = go (rw e at (report-call-numbered w))
-  where
-    go : Numbered 11 {A = List ℕ} (refuse q) → 0 < q
-    go (numbered low high) = low
-
-is-call : {w : List ℕ} → Image w (decode w) → reported w (report (decode w)) ≡ reportCall w
-unfolding reportCall opened
-is-call i = rw (image-sized i .0, image-sized i .1)
+call-positive w q e = report-refusal-positive w e
 
 pub formed-positive : {w : List ℕ} → Image w (decode w) → Positive (reported w (report (decode w)))
-formed-positive {w} i q e = call-positive w q (rw (is-call i) at e)
+formed-positive {w} i q e = call-positive w q (rw (report-on-image i) at e)
 
 pub fills : {o : Outcome} (r : Reported) (v : List ℕ) → o ≡ reportOutcome r v → Positive o → (old : Statistics) {q : ℕ} {new : Statistics} → (q ≡ questionOf r) × (new ≡ recordOf r old) → Fills o old q new v
 unfolding reportOutcome questionOf recordOf recordAnswer
