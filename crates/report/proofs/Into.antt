@@ -55,7 +55,7 @@ use Rattle.report.proofs.report_into as into
 use Rattle.report.proofs.Filling as filling
 use Rattle.report.proofs.Doors.{Door, reports, fills, ByValue, mach, IsRecord, passes}
 
--- the MIR, over the function that reports
+-- the MIR, over the function that reports; each proof compares it with the code of its own function
 abbrev pub function : Name → Fn
 function callee = record {
   lifetimes = 2;

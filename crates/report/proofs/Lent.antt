@@ -56,7 +56,7 @@ use Rattle.report.proofs.report_into as into
 use Rattle.report.proofs.report_lent as lent
 use Rattle.report.proofs.Doors.{Door, reports, fills, Into, mach, IsRecord, passes}
 
--- the MIR, over the function that fills the record
+-- the MIR, over the function that fills the record; each proof compares it with the code of its own function
 abbrev pub function : Name → Fn
 function callee = record {
   lifetimes = 1;

@@ -1,5 +1,5 @@
 // The report: its numbers are taken, then both generations are collected without roots or masks, so that no allocation stays.
-// `report` takes any words, `report_formed` an image that 1 and 2 were asked of.
+// The functions named `_formed` take an image that 1 and 2 were asked of, the others any words.
 use elder::Swept;
 use image::Checked;
 use image::counts::MOST;
