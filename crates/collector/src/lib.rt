@@ -19,7 +19,8 @@ ghost use mir.Val.{ofZ};
 ghost use Rattle.model.specs.Records.{cellWords};
 ghost use Rattle.model.specs.Image.{decode};
 ghost use Rattle.model.specs.Collector.{alloc, collectAndAlloc};
-ghost use Rattle.model.specs.Calls.{cellsIn, rootsGood, scratchLength, allocOn, allocated, allocs, call};
+ghost use Rattle.model.specs.Calls.{cellsIn, rootsGood, scratchLength, allocated, allocs, call};
+ghost use Rattle.theorems.specs.Doors.{onFormed};
 ghost use Rattle.theorems.specs.Fit.{Image};
 ghost use Rattle.theorems.specs.Does.{Does};
 ghost use Rattle.theorems.specs.Apart.{swapRoots};
@@ -187,7 +188,7 @@ pub fn alloc_formed(
     amount: i64,
 ) -> Allocated
     requires { ⌜ Image (now image) (decode (now image)) ⌝ }
-    ensures { λ r. ⌜ allocated (now (image .entry)) (now (roots .entry)) (allocOn (decode (now (image .entry))) (now (roots .entry)) (length (now (scratch .entry))) (ofZ w64 amount)) ≡ allocOutcome r (now (image .exit)) (now (roots .exit)) ⌝ }
+    ensures { λ r. ⌜ onFormed (allocs (now (roots .entry)) (length (now (scratch .entry))) (ofZ w64 amount)) (now (image .entry)) ≡ allocOutcome r (now (image .exit)) (now (roots .exit)) ⌝ }
 {
     if !image::roots_ok(roots) {
         return Allocated::Refused(3);

@@ -24,7 +24,8 @@ ghost use Rattle.model.specs.Heap.{inBounds};
 ghost use Rattle.model.specs.Image.{imageLength, decode};
 ghost use Rattle.model.specs.Collector.{report};
 ghost use Rattle.model.specs.Figure.{figure};
-ghost use Rattle.model.specs.Calls.{scratchLength, allocOn, readOn, writeOn, allocated, left, reported, allocs, reads, writes, call, reportCall, newCall};
+ghost use Rattle.model.specs.Calls.{scratchLength, reported, allocs, reads, writes, call, reportCall, newCall};
+ghost use Rattle.theorems.specs.Doors.{onFormed};
 ghost use Rattle.theorems.specs.Fit.{Image};
 ghost use Rattle.value.specs.Value.{valueCell};
 ghost use Rattle.trace.specs.Words.{pointer};
@@ -126,7 +127,7 @@ pub extern "C" fn heap_alloc_formed(
     out: &mut [u64; 7],
 ) -> u64
     requires { ⌜ Image (now image) (decode (now image)) ⌝ }
-    ensures { λ r. ⌜ Allocates (allocated (now (image .entry)) (now (roots .entry)) (allocOn (decode (now (image .entry))) (now (roots .entry)) (length (now (scratch .entry))) (ofZ w64 amount))) (now (out .entry)) r (now (out .exit)) (now (image .exit)) (now (roots .exit)) ⌝ }
+    ensures { λ r. ⌜ Allocates (onFormed (allocs (now (roots .entry)) (length (now (scratch .entry))) (ofZ w64 amount)) (now (image .entry))) (now (out .entry)) r (now (out .exit)) (now (image .exit)) (now (roots .exit)) ⌝ }
 {
     answer_allocated(collector::alloc_formed(image, roots, scratch, amount), out)
 }
@@ -175,7 +176,7 @@ pub extern "C" fn heap_read_formed(
     out: &mut [u64; 3],
 ) -> u64
     requires { ⌜ Image (now image) (decode (now image)) ⌝ }
-    ensures { λ r. ⌜ Answers (readOn (decode (now (image .entry))) (pointer heap base (ofZ w64 offset))) (now (out .entry)) r (now (out .exit)) ⌝ }
+    ensures { λ r. ⌜ Answers (onFormed (reads (pointer heap base (ofZ w64 offset))) (now (image .entry)) .answer) (now (out .entry)) r (now (out .exit)) ⌝ }
 {
     answer_loaded(
         access::read_formed(image, Pointer { heap, base, offset }),
@@ -216,7 +217,7 @@ pub extern "C" fn heap_write_formed(
     cell: &[u64],
 ) -> u64
     requires { ⌜ Image (now image) (decode (now image)) ⌝ }
-    ensures { λ r. ⌜ Leaves (left (now (image .entry)) (writeOn (decode (now (image .entry))) (pointer heap base (ofZ w64 offset)) (now (cell .entry)))) r (now (image .exit)) ⌝ }
+    ensures { λ r. ⌜ Leaves (onFormed (writes (pointer heap base (ofZ w64 offset)) (now (cell .entry))) (now (image .entry))) r (now (image .exit)) ⌝ }
 {
     stored_number(access::write_formed(image, Pointer { heap, base, offset }, cell))
 }
