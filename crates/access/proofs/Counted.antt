@@ -1,5 +1,5 @@
 -- What a write counts: the barrier's own steps, and the counts that they changed.
-use mathlib.Core.Path.{_≡_, refl, sym, ap, _∙_}
+use mathlib.Core.Path.{_≡_, refl, sym, ap, subst, _∙_}
 use mathlib.Core.Bool.{Bool, true, false, not}
 use mathlib.Core.List.{List}
 use Prim.Native.Nat.{ℕ, zero, suc, _-_, _%_, _<_}
@@ -24,6 +24,7 @@ use Rattle.fields.specs.Fields.{Reads, Turns, withBar, withOldBar, barOf, onBar
 use Rattle.fields.proofs.Parts.{decoded}
 use Rattle.fields.proofs.Counts.{bar-fit}
 use Rattle.access.specs.Counting.{goneIf, crosses, placeOf, countFrom, countOf, recounted, onCounts, Leaves, done, kept}
+use Rattle.access.specs.declared.Stored.{Stored}
 use Rattle.access.specs.declared.Stored.the-variants.{Done, Refused}
 use Rattle.access.proofs.Crossing.{bar-same}
 
@@ -80,60 +81,104 @@ down-from k (present cs) d s f e = go (ltb 0 (getD cs k 0)) e
     go true e = let is : d ≡ present (set cs k n) = cc in rw is (set-from (present cs) k n s f)
     go false e = let z : _≡_ {A = ℕ} 0 1 = cc in absurd (omega arith)
 
-module _ {own : ℕ} {f : Cell → Barrier → Res Barrier} {g : ℕ → Barrier → Res Barrier} (s : Steps own f g) where
-  apart : (c : Cell) (b : Barrier) → crosses own c ≡ false → f c b ≡ ok b
-  unfolding crosses
-  apart (plain k v) b e = sym (s .of-plain k v b)
-  apart (ref p) b e = sym (s .of-ref p b) ∙ go (eqb (p .heap) own) e
-    where
-      go : (t : Bool) → not t ≡ false → (elim t [ true ↦ ok b | false ↦ g (p .base % 256) b ]) ≡ ok b
-      go true e = refl
-      go false e = let z : _≡_ {A = ℕ} 0 1 = cc in absurd (omega arith)
+-- a step of heap own: nothing for a cell that does not count, and else one count
+pub record Counts (own : ℕ) (f : Cell → Barrier → Res Barrier) : Type 0 where
+  pub apart : (c : Cell) (b : Barrier) → crosses own c ≡ false → f c b ≡ ok b
+  pub from : (c : Cell) (b d : Barrier) → FitBarrier b → f c b ≡ ok d → countOf own c d b ≡ d
 
-  module _ (from : (k : ℕ) (b d : Barrier) → k < cache → FitBarrier b → g k b ≡ ok d → countFrom k d b ≡ d) where
-    step-from : (c : Cell) (b d : Barrier) → FitBarrier b → f c b ≡ ok d → countOf own c d b ≡ d
-    unfolding countOf crosses placeOf
-    step-from (plain k v) b d i e = let is : ok b ≡ ok d = s .of-plain k v b ∙ e in cc
-    step-from (ref p) b d i e = go (eqb (p .heap) own) (s .of-ref p b ∙ e)
+counts-by : {own : ℕ} {f : Cell → Barrier → Res Barrier} {g : ℕ → Barrier → Res Barrier} → Steps own f g
+    → ((k : ℕ) (b d : Barrier) → k < cache → FitBarrier b → g k b ≡ ok d → countFrom k d b ≡ d) → Counts own f
+unfolding crosses countOf placeOf
+counts-by {own} {f} {g} s at = record { apart = stays; from = changes }
+  where
+    stays : (c : Cell) (b : Barrier) → crosses own c ≡ false → f c b ≡ ok b
+    stays (plain k v) b e = sym (s .of-plain k v b)
+    stays (ref p) b e = sym (s .of-ref p b) ∙ go (eqb (p .heap) own) e
+      where
+        go : (t : Bool) → not t ≡ false → (elim t [ true ↦ ok b | false ↦ g (p .base % 256) b ]) ≡ ok b
+        go true e = refl
+        go false e = let z : _≡_ {A = ℕ} 0 1 = cc in absurd (omega arith)
+
+    changes : (c : Cell) (b d : Barrier) → FitBarrier b → f c b ≡ ok d → countOf own c d b ≡ d
+    changes (plain k v) b d i e = let is : ok b ≡ ok d = s .of-plain k v b ∙ e in cc
+    changes (ref p) b d i e = go (eqb (p .heap) own) (s .of-ref p b ∙ e)
       where
         go : (t : Bool) → (elim t [ true ↦ ok b | false ↦ g (p .base % 256) b ]) ≡ ok d → (elim (not t) [ true ↦ countFrom (p .base % 256) d b | false ↦ b ]) ≡ d
         go true e = cc
-        go false e = from (p .base % 256) b d (low-byte (p .base)) i e
+        go false e = at (p .base % 256) b d (low-byte (p .base)) i e
 
--- the old cell out, then the new one in
+pub counts-in : (own : ℕ) → Counts own (countIn own)
+counts-in own = counts-by (steps-in own) up-from
 
-module _ {w : List ℕ} (i : Image w (decode w)) (own : ℕ) (old new : Cell) where
-  abbrev whole : Res Heap
-  whole = onCounts own (recounted own true old new) (decode w)
+pub counts-out : (own : ℕ) → Counts own (countOut own)
+counts-out own = counts-by (steps-out own) down-from
 
-  pub none-counts : crosses own old ≡ false → crosses own new ≡ false → Leaves whole w Done w
-  unfolding onCounts recounted
-  none-counts e f = rw (apart (steps-out own) old (barOf own (decode w)) e, apart (steps-in own) new (barOf own (decode w)) f, bar-same own (decode w)) (done i)
+-- the image after a step whose count was stored
 
-  module _ {b : Barrier} (r : Reads (λ h. barOf own h) w b) where
-    pub out-refused : (q : ℕ) → countOut own old b ≡ refuse q → Leaves whole w (Refused q) w
+abbrev Stores : ℕ → Cell → Barrier → List ℕ → List ℕ → Type 0
+Stores own c d w v = Turns (λ h. onBar own (countOf own c d (barOf own h)) h) w v
+
+step-image : {own : ℕ} {f : Cell → Barrier → Res Barrier} → Counts own f → {w v : List ℕ} {h : Heap} → Image w h → (c : Cell) {d : Barrier} → f c (barOf own h) ≡ ok d → Stores own c d w v → Image v (onBar own d h)
+step-image {own} k {h = h} i c {d} e t = rw (k .from c (barOf own h) d (bar-fit i own) e) at (t .turns h i)
+
+module _ {w : List ℕ} (i : Image w (decode w)) (own : ℕ) {b : Barrier} (r : Reads (λ h. barOf own h) w b) where
+  was : barOf own (decode w) ≡ b
+  was = r .reads (decode w) i
+
+  -- one step
+  module _ {f : Cell → Barrier → Res Barrier} (k : Counts own f) (c : Cell) where
+    pub alone-refused : (q : ℕ) → f c b ≡ refuse q → Leaves (onCounts own (f c) (decode w)) w (Refused q) w
+    unfolding onCounts
+    alone-refused q e = rw (was, e) kept
+
+    pub alone-stored : {d : Barrier} {v : List ℕ} → f c b ≡ ok d → Stores own c d w v → Leaves (onCounts own (f c) (decode w)) w Done v
+    unfolding onCounts
+    alone-stored e t = rw (was, e) (done (step-image k i c (rw was e) t))
+
+  -- the old cell out, then the new one in
+  module _ (old new : Cell) where
+    abbrev both : Res Heap
+    both = onCounts own (recounted own true old new) (decode w)
+
+    pub out-refused : (q : ℕ) → countOut own old b ≡ refuse q → Leaves both w (Refused q) w
     unfolding onCounts recounted
-    out-refused q o = rw (r .reads (decode w) i, o) kept
+    out-refused q o = rw (was, o) kept
 
     module _ {d : Barrier} (o : countOut own old b ≡ ok d) where
-      pub in-refused : (q : ℕ) → countIn own new d ≡ refuse q → Leaves whole w (Refused q) w
+      pub in-refused : (q : ℕ) → countIn own new d ≡ refuse q → Leaves both w (Refused q) w
       unfolding onCounts recounted
-      in-refused q n = rw (r .reads (decode w) i, o, n) kept
+      in-refused q n = rw (was, o, n) kept
 
-      module _ {u : List ℕ} (t : Turns (λ h. onBar own (countOf own old d (barOf own h)) h) w u) where
+      module _ {u : List ℕ} (t : Stores own old d w u) where
         out-image : Image u (onBar own d (decode w))
-        out-image =
-            let was : barOf own (decode w) ≡ b = r .reads (decode w) i in
-            let is : countOf own old d b ≡ d = step-from (steps-out own) down-from old b d (rw (← was) (bar-fit i own)) o in
-            rw (was, is) at (t .turns (decode w) i)
+        out-image = step-image (counts-out own) i old (rw was o) t
 
         pub out-stored : Image u (decode u)
         out-stored = decoded out-image
 
-        pub both-stored : {v : List ℕ} {e : Barrier} → countIn own new d ≡ ok e → Turns (λ h. onBar own (countOf own new e (barOf own h)) h) u v → Leaves whole w Done v
+        pub both-stored : {v : List ℕ} {e : Barrier} → countIn own new d ≡ ok e → Stores own new e u v → Leaves both w Done v
         unfolding onCounts recounted
-        both-stored {v} {e} n t₂ =
-            let fit : FitBarrier d = rw (bar-on own d (decode w)) at (bar-fit out-image own) in
-            let is : countOf own new e d ≡ e = step-from (steps-in own) up-from new d e fit n in
-            let last : Image v (onBar own e (decode w)) = rw (bar-on own d (decode w), is, bar-over own e d (decode w)) at (t₂ .turns _ out-image) in
-            rw (r .reads (decode w) i, o, n) (done last)
+        both-stored {e = e} n s =
+            rw (was, o, n) (done (rw (bar-over own e d (decode w)) at (step-image (counts-in own) out-image new (rw (bar-on own d (decode w)) n) s)))
+
+pub leaves-as : {m n : Res Heap} {w v : List ℕ} {r : Stored} → m ≡ n → Leaves m w r v → Leaves n w r v
+leaves-as {w = w} {v = v} {r = r} e = subst (λ (x : Res Heap). Leaves x w r v) e
+
+-- cells that do not count
+
+module _ (own : ℕ) (old new : Cell) (h : Heap) where
+  pub only-in : crosses own old ≡ false → onCounts own (countIn own new) h ≡ onCounts own (recounted own true old new) h
+  unfolding onCounts recounted
+  only-in e = rw (counts-out own .apart old (barOf own h) e)
+
+  pub only-out : crosses own new ≡ false → onCounts own (countOut own old) h ≡ onCounts own (recounted own true old new) h
+  unfolding onCounts recounted
+  only-out e = go (countOut own old (barOf own h))
+    where
+      go : (m : Res Barrier) → (m >>= λ x. ok (onBar own x h)) ≡ ((m >>= countIn own new) >>= λ x. ok (onBar own x h))
+      go (ok x) = rw (counts-in own .apart new x e)
+      go (refuse q) = refl
+
+pub neither : {w : List ℕ} → Image w (decode w) → (own : ℕ) (old new : Cell) → crosses own old ≡ false → crosses own new ≡ false → Leaves (onCounts own (recounted own true old new) (decode w)) w Done w
+unfolding onCounts recounted
+neither {w} i own old new e f = rw (counts-out own .apart old (barOf own (decode w)) e, counts-in own .apart new (barOf own (decode w)) f, bar-same own (decode w)) (done i)

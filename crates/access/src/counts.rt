@@ -1,11 +1,12 @@
-// What a write counts, by the barrier's own steps. The barrier is long: it is loaded only where a cell counts, and of its counts only
-// those that changed are stored.
+// What a write counts, by the barrier's own steps. The barrier is long, and each step copies it: it is loaded only where a cell
+// counts, a step is made only for a cell that does, and of the counts only those that changed are stored.
 use crate::Stored;
 use barrier::Counting;
 use barrier::WriteBarrier;
 use value::Value;
 ghost use mathlib.Core.Path.{_≡_};
 ghost use mathlib.Core.Bool.{true};
+ghost use Rattle.model.specs.Barrier.{countIn, countOut};
 ghost use Rattle.model.specs.Image.{decode};
 ghost use Rattle.theorems.specs.Fit.{Image};
 ghost use Rattle.value.specs.Value.{valueCell};
@@ -14,7 +15,7 @@ ghost use Rattle.fields.specs.Fields.{Turns, barOf, onBar};
 ghost use Rattle.access.specs.Counting.{goneIf, crosses, countOf, recounted, onCounts, Leaves};
 
 // What is counted out: the old value only if `out`.
-fn gone(out: bool, old: Value) -> Value
+fn counted_out(out: bool, old: Value) -> Value
     ensures { λ r. ⌜ valueCell r ≡ goneIf out (valueCell old) ⌝ }
 {
     if out { old } else { Value::Uninitialized }
@@ -47,18 +48,49 @@ fn store_count(image: &mut [u64], own: u8, v: Value, b: WriteBarrier)
     fields::put_count(image, own, at, n as u64);
 }
 
-// The old cell out, then the new one in. Nothing is stored before both have got their answer.
+// One cell counts: its step on the barrier, and the count that it changed.
+fn count_in_alone(image: &mut [u64], own: u8, new: Value) -> Stored
+    requires { ⌜ Image (now image) (decode (now image)) ⌝ }
+    ensures { λ r. ⌜ Leaves (onCounts own (countIn own (valueCell new)) (decode (now (image .entry)))) (now (image .entry)) r (now (image .exit)) ⌝ }
+{
+    let b = fields::barrier_of(image, own);
+    let come = b.count_in(own, new);
+    let a = come.answer;
+    if let Counting::Refused(q) = a {
+        return Stored::Refused(q);
+    }
+    let next = come.barrier;
+    store_count(image, own, new, next);
+    Stored::Done
+}
+
+fn count_out_alone(image: &mut [u64], own: u8, old: Value) -> Stored
+    requires { ⌜ Image (now image) (decode (now image)) ⌝ }
+    ensures { λ r. ⌜ Leaves (onCounts own (countOut own (valueCell old)) (decode (now (image .entry)))) (now (image .entry)) r (now (image .exit)) ⌝ }
+{
+    let b = fields::barrier_of(image, own);
+    let gone = b.count_out(own, old);
+    let a = gone.answer;
+    if let Counting::Refused(q) = a {
+        return Stored::Refused(q);
+    }
+    let next = gone.barrier;
+    store_count(image, own, old, next);
+    Stored::Done
+}
+
+// Both count. Nothing is stored before both steps have got their answer.
 fn count_both(image: &mut [u64], own: u8, old: Value, new: Value) -> Stored
     requires { ⌜ Image (now image) (decode (now image)) ⌝ }
     ensures { λ r. ⌜ Leaves (onCounts own (recounted own true (valueCell old) (valueCell new)) (decode (now (image .entry)))) (now (image .entry)) r (now (image .exit)) ⌝ }
 {
     let b = fields::barrier_of(image, own);
-    let out = b.count_out(own, old);
-    let a = out.answer;
+    let gone = b.count_out(own, old);
+    let a = gone.answer;
     if let Counting::Refused(q) = a {
         return Stored::Refused(q);
     }
-    let less = out.barrier;
+    let less = gone.barrier;
     let come = less.count_in(own, new);
     let a = come.answer;
     if let Counting::Refused(q) = a {
@@ -75,9 +107,15 @@ pub fn recount(image: &mut [u64], own: u8, out: bool, old: Value, new: Value) ->
     requires { ⌜ Image (now image) (decode (now image)) ⌝ }
     ensures { λ r. ⌜ Leaves (onCounts own (recounted own out (valueCell old) (valueCell new)) (decode (now (image .entry)))) (now (image .entry)) r (now (image .exit)) ⌝ }
 {
-    let was = gone(out, old);
-    if !crosses(own, was) && !crosses(own, new) {
-        return Stored::Done;
+    let was = counted_out(out, old);
+    if crosses(own, was) {
+        if crosses(own, new) {
+            return count_both(image, own, was, new);
+        }
+        return count_out_alone(image, own, was);
     }
-    count_both(image, own, was, new)
+    if crosses(own, new) {
+        return count_in_alone(image, own, new);
+    }
+    Stored::Done
 }

@@ -35,7 +35,7 @@ returns : tie.Need-returns
 returns c =
     let k = c .before .before .before in
     let s = k .before .before .before .before in
-    out-refused (s .pre) _ _ _ (k .before .barrier-of .ensures) _ (step-refused _ (out-is k) _ (c .before .a .given .1))
+    out-refused (s .pre) _ (k .before .barrier-of .ensures) _ _ _ (step-refused _ (out-is k) _ (c .before .a .given .1))
 
 enum-told : tie.Need-enum-told
 enum-told c = search needs
@@ -53,7 +53,7 @@ returns-2 : tie.Need-returns-2
 returns-2 c =
     let k = c .before .before .before in
     let s = k .before .before .before .before .before .before .before .before in
-    in-refused (s .pre) _ _ _ (k .before .before .before .before .before .barrier-of .ensures) (out-done (k .before)) _ (step-refused _ (in-is k) _ (c .before .a2 .given .1))
+    in-refused (s .pre) _ (k .before .before .before .before .before .barrier-of .ensures) _ _ (out-done (k .before)) _ (step-refused _ (in-is k) _ (c .before .a2 .given .1))
 
 enum-told-2 : tie.Need-enum-told-2
 enum-told-2 c = search needs
@@ -65,7 +65,7 @@ store-count-requires-2 : tie.Need-store-count-requires-2
 store-count-requires-2 c κs =
     let l = c .before .before .before .before .before .before .before .before .before in
     let s = l .before .before .before .before .before .before .before in
-    out-stored (s .pre) _ _ (valueCell (s .args .new)) (l .before .before .before .before .barrier-of .ensures) (out-done l) (c .before .before .before .store-count .ensures)
+    out-stored (s .pre) _ (l .before .before .before .before .barrier-of .ensures) _ (valueCell (s .args .new)) (out-done l) (c .before .before .before .store-count .ensures)
 
 same-length-3 : tie.Need-same-length-3
 same-length-3 c = search needs
@@ -74,7 +74,7 @@ returns-3 : tie.Need-returns-3
 returns-3 c =
     let k = c .before .before .before .before .before .before .before .before .before .before .before in
     let s = k .before .before .before .before .before .before .before .before in
-    both-stored (s .pre) _ _ _ (k .before .before .before .before .before .barrier-of .ensures) (out-done (k .before)) (c .before .before .before .before .before .before .store-count .ensures) (step-done _ (in-is k) (c .before .before .before .before .before .before .before .before .before .enum-told2 .given .1)) (c .before .before .store-count2 .ensures)
+    both-stored (s .pre) _ (k .before .before .before .before .before .barrier-of .ensures) _ _ (out-done (k .before)) (c .before .before .before .before .before .before .store-count .ensures) (step-done _ (in-is k) (c .before .before .before .before .before .before .before .before .before .enum-told2 .given .1)) (c .before .before .store-count2 .ensures)
 
 pub count-both-spec : {M : Type 1} → statement M
 count-both-spec =

@@ -1,7 +1,7 @@
 use Rattle.value.specs.Value.{valueCell}
 use Rattle.access.specs.Counting.{goneIf}
-use Rattle.access.proofs.counts.gone.Statement.{statement}
-use Rattle.access.proofs.counts.gone.Tie as tie
+use Rattle.access.proofs.counts.counted_out.Statement.{statement}
+use Rattle.access.proofs.counts.counted_out.Tie as tie
 
 returns : tie.Need-returns
 unfolding goneIf
@@ -11,5 +11,5 @@ returns-2 : tie.Need-returns-2
 unfolding goneIf valueCell
 returns-2 c = rw (c .if1 .left)
 
-pub gone-spec : {M : Type 1} → statement M
-gone-spec = tie.close (tie.spec returns returns-2)
+pub counted-out-spec : {M : Type 1} → statement M
+counted-out-spec = tie.close (tie.spec returns returns-2)
