@@ -19,7 +19,8 @@ ghost use mir.Val.{ofZ};
 ghost use Rattle.model.specs.Records.{blank, cellOf, validWords};
 ghost use Rattle.model.specs.Image.{decode};
 ghost use Rattle.model.specs.Collector.{read, write};
-ghost use Rattle.model.specs.Calls.{valueGood, writeOn, left, writes, call};
+ghost use Rattle.model.specs.Calls.{valueGood, writes, call};
+ghost use Rattle.theorems.specs.Doors.{onFormed};
 ghost use Rattle.theorems.specs.Fit.{Image};
 ghost use Rattle.value.specs.Value.{valueCell};
 ghost use Rattle.trace.specs.Words.{pointer};
@@ -194,7 +195,7 @@ fn write_old(image: &mut [u64], base: u64, offset: i64, cell: &[u64]) -> Stored
 // Any other heap: 8.
 pub fn write_formed(image: &mut [u64], p: Pointer, cell: &[u64]) -> Stored
     requires { ⌜ Image (now image) (decode (now image)) ⌝ }
-    ensures { λ r. ⌜ left (now (image .entry)) (writeOn (decode (now (image .entry))) (pointerOf p) (now (cell .entry))) ≡ storedOutcome r (now (image .exit)) ⌝ }
+    ensures { λ r. ⌜ onFormed (writes (pointerOf p) (now (cell .entry))) (now (image .entry)) ≡ storedOutcome r (now (image .exit)) ⌝ }
 {
     if !image::value_ok(cell) {
         return Stored::Refused(3);

@@ -8,7 +8,7 @@ use Rattle.access.proofs.counts.count_in_alone.Statement.{statement}
 use Rattle.access.proofs.counts.count_in_alone.Tie as tie
 
 step-is : (c : tie.After-count-in) → counted (c .count-in .result) ≡ countIn (c .before .before .before .before .args .own) (valueCell (c .before .before .before .before .args .new)) (barrierOf (c .before .barrier-of .result))
-step-is c = c .count-in .ensures
+step-is c = c .count-in .ensures .counted
 
 barrier-of-requires : tie.Need-barrier-of-requires
 barrier-of-requires c κs = search needs

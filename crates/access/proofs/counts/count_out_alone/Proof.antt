@@ -8,7 +8,7 @@ use Rattle.access.proofs.counts.count_out_alone.Statement.{statement}
 use Rattle.access.proofs.counts.count_out_alone.Tie as tie
 
 step-is : (c : tie.After-count-out) → counted (c .count-out .result) ≡ countOut (c .before .before .before .before .args .own) (valueCell (c .before .before .before .before .args .old)) (barrierOf (c .before .barrier-of .result))
-step-is c = c .count-out .ensures
+step-is c = c .count-out .ensures .counted
 
 barrier-of-requires : tie.Need-barrier-of-requires
 barrier-of-requires c κs = search needs
