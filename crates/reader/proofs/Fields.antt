@@ -43,8 +43,8 @@ module _ {w : List ℕ} {at k i value : ℕ} (g : Joined w at k i value) where
     below = rw (add-one, pow-succ') (omega (arith, g .below));
   }
 
-  pub join-done : k ≤ i → value ≡ field w at k
+  pub join-done : k ≤ i → (value ≡ field w at k) × (value < 256 ^ k)
   join-done h =
       let all : i ≡ k = omega (arith, g .passed) in
       let from : at + (k - i) ≡ at = omega arith in
-      rw (from, all) at (g .is)
+      (rw (from, all) at (g .is), rw all at (g .below))

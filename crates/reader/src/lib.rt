@@ -1,6 +1,6 @@
 // Commands read from the bytes of a command file: a byte for the command, then its operands, little-endian.
 ghost use mathlib.Core.Path.{_≡_};
-ghost use Prim.Native.Nat.{_+_, _<_, _≤_};
+ghost use Prim.Native.Nat.{_+_, _^_, _<_, _≤_};
 ghost use lib.ListN.{length};
 ghost use mir.Syntax.{w64};
 ghost use mir.Val.{ofZ};
@@ -9,37 +9,37 @@ ghost use Rattle.model.specs.Res.{ok};
 ghost use Rattle.model.specs.Command.{opcodes, operandBytes, field as fieldOf, commandOf, registersOf};
 ghost use Rattle.reader.specs.Answer.{modelCommand, operandsAnswer, nextAnswer, placeBehind, movedTo, nextAt};
 
-// Amounts and added offsets are signed; a value is its cell's three words.
+// Each operand has the width that it has in the file. Amounts and added offsets are signed; a value is its cell's three words.
 pub enum Command {
     New {
-        n: u64,
-        t: u64,
-        s: u64,
-        c: u64,
+        n: u16,
+        t: u16,
+        s: u16,
+        c: u16,
     },
     Alloc {
-        register: usize,
+        register: u8,
         amount: i64,
     },
     Set {
-        register: usize,
-        tag: u64,
+        register: u8,
+        tag: u16,
         payload: u64,
         offset: u64,
     },
     Load {
-        register: usize,
-        pointer: usize,
+        register: u8,
+        pointer: u8,
         offset: i64,
     },
     Store {
-        register: usize,
-        pointer: usize,
+        register: u8,
+        pointer: u8,
         offset: i64,
     },
     Report,
     Figure {
-        register: usize,
+        register: u8,
     },
 }
 
@@ -57,10 +57,10 @@ fn wide(byte: u8) -> u64
     byte as u64
 }
 
-// k bytes from a place on. The first is the lowest, so they are joined from the last one back.
+// k bytes from a place on. The first is the lowest, so they are joined from the last one back. The bound is the operand's width.
 fn field(w: &[u8], at: usize, k: usize) -> u64
     requires { ⌜ (at + k ≤ length (now w)) × (k ≤ 8) ⌝ }
-    ensures { λ r. ⌜ r ≡ fieldOf (now (w .entry)) at k ⌝ }
+    ensures { λ r. ⌜ (r ≡ fieldOf (now (w .entry)) at k) × (r < 256 ^ k) ⌝ }
 {
     let mut value: u64 = 0;
     for i in 0..k {
@@ -68,6 +68,28 @@ fn field(w: &[u8], at: usize, k: usize) -> u64
         value = 256 * value + wide(w[at + back]);
     }
     value
+}
+
+// Operands of one, two and eight bytes.
+fn byte_at(w: &[u8], at: usize) -> u8
+    requires { ⌜ at + 1 ≤ length (now w) ⌝ }
+    ensures { λ r. ⌜ r ≡ fieldOf (now (w .entry)) at 1 ⌝ }
+{
+    field(w, at, 1) as u8
+}
+
+fn short_at(w: &[u8], at: usize) -> u16
+    requires { ⌜ at + 2 ≤ length (now w) ⌝ }
+    ensures { λ r. ⌜ r ≡ fieldOf (now (w .entry)) at 2 ⌝ }
+{
+    field(w, at, 2) as u16
+}
+
+fn word_at(w: &[u8], at: usize) -> u64
+    requires { ⌜ at + 8 ≤ length (now w) ⌝ }
+    ensures { λ r. ⌜ r ≡ fieldOf (now (w .entry)) at 8 ⌝ }
+{
+    field(w, at, 8)
 }
 
 // The signed number whose word this is. From 2^63 on by the distance below -1, since no cast may lose bits.
@@ -86,10 +108,10 @@ fn new_of(w: &[u8]) -> Command
     requires { ⌜ length (now w) ≡ 8 ⌝ }
     ensures { λ r. ⌜ modelCommand r ≡ commandOf 0x4E (now (w .entry)) ⌝ }
 {
-    let n = field(w, 0, 2);
-    let t = field(w, 2, 2);
-    let s = field(w, 4, 2);
-    let c = field(w, 6, 2);
+    let n = short_at(w, 0);
+    let t = short_at(w, 2);
+    let s = short_at(w, 4);
+    let c = short_at(w, 6);
     Command::New { n, t, s, c }
 }
 
@@ -97,8 +119,8 @@ fn alloc_of(w: &[u8]) -> Command
     requires { ⌜ length (now w) ≡ 9 ⌝ }
     ensures { λ r. ⌜ modelCommand r ≡ commandOf 0x41 (now (w .entry)) ⌝ }
 {
-    let register = field(w, 0, 1) as usize;
-    let amount = signed(field(w, 1, 8));
+    let register = byte_at(w, 0);
+    let amount = signed(word_at(w, 1));
     Command::Alloc { register, amount }
 }
 
@@ -106,10 +128,10 @@ fn set_of(w: &[u8]) -> Command
     requires { ⌜ length (now w) ≡ 19 ⌝ }
     ensures { λ r. ⌜ modelCommand r ≡ commandOf 0x56 (now (w .entry)) ⌝ }
 {
-    let register = field(w, 0, 1) as usize;
-    let tag = field(w, 1, 2);
-    let payload = field(w, 3, 8);
-    let offset = field(w, 11, 8);
+    let register = byte_at(w, 0);
+    let tag = short_at(w, 1);
+    let payload = word_at(w, 3);
+    let offset = word_at(w, 11);
     Command::Set {
         register,
         tag,
@@ -122,9 +144,9 @@ fn load_of(w: &[u8]) -> Command
     requires { ⌜ length (now w) ≡ 10 ⌝ }
     ensures { λ r. ⌜ modelCommand r ≡ commandOf 0x4C (now (w .entry)) ⌝ }
 {
-    let register = field(w, 0, 1) as usize;
-    let pointer = field(w, 1, 1) as usize;
-    let offset = signed(field(w, 2, 8));
+    let register = byte_at(w, 0);
+    let pointer = byte_at(w, 1);
+    let offset = signed(word_at(w, 2));
     Command::Load {
         register,
         pointer,
@@ -136,9 +158,9 @@ fn store_of(w: &[u8]) -> Command
     requires { ⌜ length (now w) ≡ 10 ⌝ }
     ensures { λ r. ⌜ modelCommand r ≡ commandOf 0x53 (now (w .entry)) ⌝ }
 {
-    let register = field(w, 0, 1) as usize;
-    let pointer = field(w, 1, 1) as usize;
-    let offset = signed(field(w, 2, 8));
+    let register = byte_at(w, 0);
+    let pointer = byte_at(w, 1);
+    let offset = signed(word_at(w, 2));
     Command::Store {
         register,
         pointer,
@@ -150,7 +172,7 @@ fn figure_of(w: &[u8]) -> Command
     requires { ⌜ length (now w) ≡ 1 ⌝ }
     ensures { λ r. ⌜ modelCommand r ≡ commandOf 0x46 (now (w .entry)) ⌝ }
 {
-    let register = field(w, 0, 1) as usize;
+    let register = byte_at(w, 0);
     Command::Figure { register }
 }
 

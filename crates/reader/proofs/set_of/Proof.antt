@@ -3,17 +3,17 @@ use Rattle.model.specs.Command.{commandOf}
 use Rattle.reader.proofs.set_of.Statement.{statement}
 use Rattle.reader.proofs.set_of.Tie as tie
 
-field-requires : tie.Need-field-requires
-field-requires c κs = search needs
+byte-at-requires : tie.Need-byte-at-requires
+byte-at-requires c κs = search needs
 
-field-requires-2 : tie.Need-field-requires-2
-field-requires-2 c κs = search needs
+short-at-requires : tie.Need-short-at-requires
+short-at-requires c κs = search needs
 
-field-requires-3 : tie.Need-field-requires-3
-field-requires-3 c κs = search needs
+word-at-requires : tie.Need-word-at-requires
+word-at-requires c κs = search needs
 
-field-requires-4 : tie.Need-field-requires-4
-field-requires-4 c κs = search needs
+word-at-requires-2 : tie.Need-word-at-requires-2
+word-at-requires-2 c κs = search needs
 
 returns : tie.Need-returns
 unfolding commandOf
@@ -21,4 +21,4 @@ returns c = search needs
 
 pub set-of-spec : {M : Type 1} → statement M
 set-of-spec =
-    tie.close (tie.spec field-requires field-requires-2 field-requires-3 field-requires-4 returns)
+    tie.close (tie.spec byte-at-requires short-at-requires word-at-requires word-at-requires-2 returns)
