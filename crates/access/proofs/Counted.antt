@@ -1,38 +1,34 @@
--- Counts that are changed where they stand: one step, then the steps of a write.
-use mathlib.Core.Path.{_≡_, refl, sym, ap, _∙_}
-use mathlib.Core.Bool.{Bool, true, false}
+-- What a write counts: the barrier's own steps, and the counts that they changed.
+use mathlib.Core.Path.{_≡_, refl, sym, ap, subst, _∙_}
+use mathlib.Core.Bool.{Bool, true, false, not}
 use mathlib.Core.List.{List}
-use Prim.Native.Nat.{ℕ, zero, suc, _+_, _-_, _%_, _≤_, _<_}
-use native.Mathlib.Nat.{mod-lt}
+use Prim.Native.Nat.{ℕ, zero, suc, _-_, _%_, _<_}
 use native.Mathlib.Omega.{arith}
-use native.Mathlib.Numerals.{add-one}
 use lib.Dec.{eqb, ltb}
-use lib.ListN.{getD, set, replicate}
-use lib.Seq.{getD-set-same, set-set, set-getD}
-use borrow.Author.Tests.{ltb-true, lt-ltb, le-ltb}
+use lib.ListN.{getD, set}
+use lib.Seq.{getD-set-same}
 use Rattle.model.specs.Res.{Res, ok, refuse, _>>=_, ask}
-use Rattle.model.specs.Records.{Cell, plain, ref}
+use Rattle.model.specs.Records.{Cell, plain, ref, blank}
 use Rattle.model.specs.Barrier.{Barrier, absent, present, cache, most, counts, count, up, down, countIn, countOut}
 use Rattle.model.specs.Heap.{Heap}
 use Rattle.model.specs.Image.{decode}
 use Rattle.theorems.specs.Fit.{FitBarrier, Image}
 use Rattle.theorems.specs.Does.{withYoung, withOld}
-use Rattle.theorems.proofs.Barrier.{allAtMost-at, zeros-bounded, low-byte}
-use Rattle.theorems.proofs.Image.{image-decode}
-use Rattle.fields.specs.Fields.{Reads, Turns, withBar, withOldBar, barOf, onBar, isPresent, withCount}
+use Rattle.theorems.proofs.Barrier.{low-byte}
+use Rattle.barrier.specs.Counts.{barrierOf, answerOf, counted}
+use Rattle.barrier.specs.declared.Counting.{Counting}
+use Rattle.barrier.specs.declared.Counting.the-variants as counting
+use Rattle.barrier.specs.declared.Counted.{Counted}
+use Rattle.barrier.proofs.Steps.{Steps, steps-in, steps-out}
+use Rattle.fields.specs.Fields.{Reads, Turns, withBar, withOldBar, barOf, onBar, withCount}
 use Rattle.fields.proofs.Parts.{decoded}
 use Rattle.fields.proofs.Counts.{bar-fit}
-use Rattle.access.specs.Counting.{recounted, onCounts, Leaves, done, kept}
+use Rattle.access.specs.Counting.{goneIf, crosses, placeOf, countFrom, countOf, recounted, onCounts, Leaves, done, kept}
 use Rattle.access.specs.declared.Stored.{Stored}
 use Rattle.access.specs.declared.Stored.the-variants.{Done, Refused}
-use Rattle.access.proofs.Writes.{refused-of, left-refused, some-barrier}
+use Rattle.access.proofs.Crossing.{bar-same}
 
 -- a heap with another barrier
-
-bar-same : (own : ℕ) (h : Heap) → onBar own (barOf own h) h ≡ h
-unfolding onBar barOf withYoung withOld withBar withOldBar
-bar-same zero h = refl
-bar-same (suc k) h = refl
 
 bar-on : (own : ℕ) (b : Barrier) (h : Heap) → barOf own (onBar own b h) ≡ b
 unfolding onBar barOf withYoung withOld withBar withOldBar
@@ -44,142 +40,145 @@ unfolding onBar withYoung withOld withBar withOldBar
 bar-over zero b d h = refl
 bar-over (suc k) b d h = refl
 
--- one step
+-- a step that was answered
 
-pub place-small : (base : ℕ) {k : ℕ} → k ≡ base % 256 → k < 256
-place-small base e = rw e (mod-lt base (omega arith))
+module _ {m : Res Barrier} (r : Counted) (e : counted r ≡ m) where
+  pub step-done : r .answer ≡ counting.Done → m ≡ ok (barrierOf (r .barrier))
+  step-done f = sym e ∙ ap (λ (a : Counting). answerOf a (r .barrier)) f
 
-pub count-few : {w : List ℕ} → Image w (decode w) → (own k : ℕ) {n : ℕ} → Reads (λ h. count (barOf own h) k) w n → n ≤ most
-unfolding count
-count-few {w} i own k r = rw (← r .reads (decode w) i) (allAtMost-at most (counts (barOf own (decode w))) k (bar-fit i own .bounded))
+  pub step-refused : (q : ℕ) → r .answer ≡ counting.Refused q → m ≡ refuse q
+  step-refused q f = sym e ∙ ap (λ (a : Counting). answerOf a (r .barrier)) f
 
-module _ (b : Barrier) (k : ℕ) {n : ℕ} (e : count b k ≡ n) where
-  pub up-full : 4294967295 ≤ n → refuse 11 ≡ up k b
-  unfolding up most
-  up-full h = rw (e, le-ltb n 4294967295 h)
+-- what is counted out, if anything
+pub gone-counted : (out : Bool) (own : ℕ) (old new : Cell) → recounted own true (goneIf out old) new ≡ recounted own out old new
+unfolding recounted goneIf countOut blank
+gone-counted true own old new = refl
+gone-counted false own old new = refl
 
-  pub up-more : n < 4294967295 → ok (withCount k (n + 1) b) ≡ up k b
-  unfolding up most withCount
-  up-more h = rw (e, lt-ltb n 4294967295 h, add-one)
+-- what one step changes: the count at one place, of a cell that counts
 
-pub down-absent : (b : Barrier) (k : ℕ) → isPresent b ≡ false → ok b ≡ down k b
-unfolding down isPresent
-down-absent absent k p = refl
-down-absent (present cs) k p = let z : _≡_ {A = ℕ} 0 1 = cc in absurd (omega arith)
+set-from : (b : Barrier) (k n : ℕ) → k < cache → FitBarrier b → countFrom k (present (set (counts b) k n)) b ≡ present (set (counts b) k n)
+unfolding withCount
+set-from b k n s f = rw (getD-set-same (counts b) k n 0 (rw (f .size) s))
 
-pub down-none : (b : Barrier) (k : ℕ) {n : ℕ} → isPresent b ≡ true → count b k ≡ n → n ≡ 0 → refuse 10 ≡ down k b
-unfolding down isPresent count counts
-down-none absent k p e z = let t : _≡_ {A = ℕ} 0 1 = cc in absurd (omega arith)
-down-none (present cs) k p e z = rw (e, z)
-
-pub down-less : (b : Barrier) (k : ℕ) {n : ℕ} → isPresent b ≡ true → count b k ≡ n → (n ≡ 0 → ⊥) → ok (withCount k (n - 1) b) ≡ down k b
-unfolding down isPresent count counts withCount
-down-less absent k p e z = let t : _≡_ {A = ℕ} 0 1 = cc in absurd (omega arith)
-down-less (present cs) k {n} p e z = let some : 0 < n = omega arith in rw (e, lt-ltb 0 n some)
-
-module _ {w : List ℕ} (i : Image w (decode w)) (own : ℕ) (m : Barrier → Res Barrier) where
-  pub same-leaves : ok (barOf own (decode w)) ≡ m (barOf own (decode w)) → Leaves (onCounts own m (decode w)) w Done w
-  unfolding onCounts
-  same-leaves e = rw (← e, bar-same own (decode w)) (done i)
-
-  pub no-leaves : (q : ℕ) → refuse q ≡ m (barOf own (decode w)) → Leaves (onCounts own m (decode w)) w (Refused q) w
-  unfolding onCounts
-  no-leaves q e = rw (← e) kept
-
-  pub put-leaves : (k n : ℕ) {v : List ℕ} → ok (withCount k n (barOf own (decode w))) ≡ m (barOf own (decode w)) → Turns (λ h. onBar own (withCount k n (barOf own h)) h) w v → Leaves (onCounts own m (decode w)) w Done v
-  unfolding onCounts
-  put-leaves k n e t = rw (← e) (done (t .turns (decode w) i))
-
--- a count that was counted out, and then refused another, counts in again
-
-in-absent : (own : ℕ) (c : Cell) (q : ℕ) → countIn own c absent ≡ refuse q → ⊥
-unfolding countIn up count counts most
-in-absent own (plain k v) q e = let z : _≡_ {A = ℕ} 0 1 = cc in omega arith
-in-absent own (ref p) q e = go (eqb (p .heap) own) e
+up-from : (k : ℕ) (b d : Barrier) → k < cache → FitBarrier b → up k b ≡ ok d → countFrom k d b ≡ d
+unfolding up
+up-from k b d s f e = go (ltb (count b k) most) e
   where
-    few : getD (replicate cache 0) (p .base % 256) 0 < 4294967295
-    few = omega (arith, allAtMost-at 0 (replicate cache 0) (p .base % 256) (zeros-bounded 0 cache))
+    go : (t : Bool) → (ask 11 t >>= λ _. ok (present (set (counts b) k (suc (count b k))))) ≡ ok d → countFrom k d b ≡ d
+    go true e = let is : d ≡ present (set (counts b) k (suc (count b k))) = cc in rw is (set-from b k (suc (count b k)) s f)
+    go false e = let z : _≡_ {A = ℕ} 0 1 = cc in absurd (omega arith)
 
-    go : (t : Bool) → _≡_ {A = Res Barrier} (elim t [ true ↦ ok absent | false ↦ up (p .base % 256) absent ]) (refuse q) → ⊥
-    go true e = let z : _≡_ {A = ℕ} 0 1 = cc in omega arith
-    go false e = let f = rw (lt-ltb _ 4294967295 few) at e in let z : _≡_ {A = ℕ} 0 1 = cc in omega arith
-
-down-up : (k : ℕ) (cs : List ℕ) (d : Barrier) → k < cache → FitBarrier (present cs) → down k (present cs) ≡ ok d → up k d ≡ ok (present cs)
-unfolding down up count counts
-down-up k cs d s f e = go (ltb 0 (getD cs k 0)) refl e
+down-from : (k : ℕ) (b d : Barrier) → k < cache → FitBarrier b → down k b ≡ ok d → countFrom k d b ≡ d
+unfolding down counts
+down-from k absent d s f e = let is : d ≡ absent = cc in rw is
+down-from k (present cs) d s f e = go (ltb 0 (getD cs k 0)) e
   where
-    go : (t : Bool) → ltb 0 (getD cs k 0) ≡ t → (ask 10 t >>= λ _. ok (present (set cs k (getD cs k 0 - 1)))) ≡ ok d → up k d ≡ ok (present cs)
-    go true p q =
-        let is : d ≡ present (set cs k (getD cs k 0 - 1)) = cc in
-        let some : 0 < getD cs k 0 = ltb-true 0 (getD cs k 0) p in
-        let few : getD cs k 0 - 1 < most = omega (arith, allAtMost-at most cs k (f .bounded)) in
-        let back : suc (getD cs k 0 - 1) ≡ getD cs k 0 = omega arith in
-        rw (is, getD-set-same cs k (getD cs k 0 - 1) 0 (rw (f .size) s), lt-ltb (getD cs k 0 - 1) most few, back, set-set cs k (getD cs k 0 - 1) (getD cs k 0), set-getD cs k 0)
-    go false p q = let z : _≡_ {A = ℕ} 0 1 = cc in absurd (omega arith)
+    n : ℕ
+    n = getD cs k 0 - 1
 
-undone : (own : ℕ) (old new : Cell) (b d : Barrier) (q : ℕ) → FitBarrier b → countOut own old b ≡ ok d → countIn own new d ≡ refuse q → countIn own old d ≡ ok b
-unfolding countIn countOut down
-undone own (plain k v) new b d q f o n = sym o
-undone own (ref p) new b d q f o n = go (eqb (p .heap) own) b f o
+    go : (t : Bool) → (ask 10 t >>= λ _. ok (present (set cs k n))) ≡ ok d → countFrom k d (present cs) ≡ d
+    go true e = let is : d ≡ present (set cs k n) = cc in rw is (set-from (present cs) k n s f)
+    go false e = let z : _≡_ {A = ℕ} 0 1 = cc in absurd (omega arith)
+
+-- a step of heap own: nothing for a cell that does not count, and else one count
+pub record Counts (own : ℕ) (f : Cell → Barrier → Res Barrier) : Type 0 where
+  pub apart : (c : Cell) (b : Barrier) → crosses own c ≡ false → f c b ≡ ok b
+  pub from : (c : Cell) (b d : Barrier) → FitBarrier b → f c b ≡ ok d → countOf own c d b ≡ d
+
+counts-by : {own : ℕ} {f : Cell → Barrier → Res Barrier} {g : ℕ → Barrier → Res Barrier} → Steps own f g
+    → ((k : ℕ) (b d : Barrier) → k < cache → FitBarrier b → g k b ≡ ok d → countFrom k d b ≡ d) → Counts own f
+unfolding crosses countOf placeOf
+counts-by {own} {f} {g} s at = record { apart = stays; from = changes }
   where
-    go : (t : Bool) (b : Barrier) → FitBarrier b → (elim t [ true ↦ ok b | false ↦ down (p .base % 256) b ]) ≡ ok d → (elim t [ true ↦ ok d | false ↦ up (p .base % 256) d ]) ≡ ok b
-    go true b f o = sym o
-    go false absent f o = let e : d ≡ absent = cc in absurd (in-absent own new q (rw e at n))
-    go false (present cs) f o = down-up (p .base % 256) cs d (low-byte (p .base)) f o
+    stays : (c : Cell) (b : Barrier) → crosses own c ≡ false → f c b ≡ ok b
+    stays (plain k v) b e = sym (s .of-plain k v b)
+    stays (ref p) b e = sym (s .of-ref p b) ∙ go (eqb (p .heap) own) e
+      where
+        go : (t : Bool) → not t ≡ false → (elim t [ true ↦ ok b | false ↦ g (p .base % 256) b ]) ≡ ok b
+        go true e = refl
+        go false e = let z : _≡_ {A = ℕ} 0 1 = cc in absurd (omega arith)
 
--- the old cell out, then the new one in
+    changes : (c : Cell) (b d : Barrier) → FitBarrier b → f c b ≡ ok d → countOf own c d b ≡ d
+    changes (plain k v) b d i e = let is : ok b ≡ ok d = s .of-plain k v b ∙ e in cc
+    changes (ref p) b d i e = go (eqb (p .heap) own) (s .of-ref p b ∙ e)
+      where
+        go : (t : Bool) → (elim t [ true ↦ ok b | false ↦ g (p .base % 256) b ]) ≡ ok d → (elim (not t) [ true ↦ countFrom (p .base % 256) d b | false ↦ b ]) ≡ d
+        go true e = cc
+        go false e = at (p .base % 256) b d (low-byte (p .base)) i e
 
-ok-of : {h : Heap} {w v : List ℕ} {r : Stored} → Leaves (ok h) w r v → Image v h
-ok-of (done i) = i
+pub counts-in : (own : ℕ) → Counts own (countIn own)
+counts-in own = counts-by (steps-in own) up-from
 
-no-step : (f : Barrier → Heap) (m : Res Barrier) (q : ℕ) → (m >>= λ b. ok (f b)) ≡ refuse q → m ≡ refuse q
-no-step f (ok b) q e = let z : _≡_ {A = ℕ} 0 1 = cc in absurd (omega arith)
-no-step f (refuse p) q e = let z : p ≡ q = cc in ap refuse z
+pub counts-out : (own : ℕ) → Counts own (countOut own)
+counts-out own = counts-by (steps-out own) down-from
 
-over-step : (own : ℕ) (d : Barrier) (h : Heap) (m : Res Barrier) → (m >>= λ x. ok (onBar own x (onBar own d h))) ≡ (m >>= λ x. ok (onBar own x h))
-over-step own d h (ok x) = ap ok (bar-over own x d h)
-over-step own d h (refuse q) = refl
+-- the image after a step whose count was stored
 
-module _ {w w₁ : List ℕ} {r₁ : Stored} (own : ℕ) (old new : Cell) (i : Image w (decode w)) (l : Leaves (onCounts own (countOut own old) (decode w)) w r₁ w₁) where
-  abbrev whole : Res Heap
-  whole = onCounts own (recounted own true old new) (decode w)
+abbrev Stores : ℕ → Cell → Barrier → List ℕ → List ℕ → Type 0
+Stores own c d w v = Turns (λ h. onBar own (countOf own c d (barOf own h)) h) w v
 
-  pub out-refused : (q : ℕ) → r₁ ≡ Refused q → Leaves whole w r₁ w₁
+step-image : {own : ℕ} {f : Cell → Barrier → Res Barrier} → Counts own f → {w v : List ℕ} {h : Heap} → Image w h → (c : Cell) {d : Barrier} → f c (barOf own h) ≡ ok d → Stores own c d w v → Image v (onBar own d h)
+step-image {own} k {h = h} i c {d} e t = rw (k .from c (barOf own h) d (bar-fit i own) e) at (t .turns h i)
+
+module _ {w : List ℕ} (i : Image w (decode w)) (own : ℕ) {b : Barrier} (r : Reads (λ h. barOf own h) w b) where
+  was : barOf own (decode w) ≡ b
+  was = r .reads (decode w) i
+
+  -- one step
+  module _ {f : Cell → Barrier → Res Barrier} (k : Counts own f) (c : Cell) where
+    pub alone-refused : (q : ℕ) → f c b ≡ refuse q → Leaves (onCounts own (f c) (decode w)) w (Refused q) w
+    unfolding onCounts
+    alone-refused q e = rw (was, e) kept
+
+    pub alone-stored : {d : Barrier} {v : List ℕ} → f c b ≡ ok d → Stores own c d w v → Leaves (onCounts own (f c) (decode w)) w Done v
+    unfolding onCounts
+    alone-stored e t = rw (was, e) (done (step-image k i c (rw was e) t))
+
+  -- the old cell out, then the new one in
+  module _ (old new : Cell) where
+    abbrev both : Res Heap
+    both = onCounts own (recounted own true old new) (decode w)
+
+    pub out-refused : (q : ℕ) → countOut own old b ≡ refuse q → Leaves both w (Refused q) w
+    unfolding onCounts recounted
+    out-refused q o = rw (was, o) kept
+
+    module _ {d : Barrier} (o : countOut own old b ≡ ok d) where
+      pub in-refused : (q : ℕ) → countIn own new d ≡ refuse q → Leaves both w (Refused q) w
+      unfolding onCounts recounted
+      in-refused q n = rw (was, o, n) kept
+
+      module _ {u : List ℕ} (t : Stores own old d w u) where
+        out-image : Image u (onBar own d (decode w))
+        out-image = step-image (counts-out own) i old (rw was o) t
+
+        pub out-stored : Image u (decode u)
+        out-stored = decoded out-image
+
+        pub both-stored : {v : List ℕ} {e : Barrier} → countIn own new d ≡ ok e → Stores own new e u v → Leaves both w Done v
+        unfolding onCounts recounted
+        both-stored {e = e} n s =
+            rw (was, o, n) (done (rw (bar-over own e d (decode w)) at (step-image (counts-in own) out-image new (rw (bar-on own d (decode w)) n) s)))
+
+pub leaves-as : {m n : Res Heap} {w v : List ℕ} {r : Stored} → m ≡ n → Leaves m w r v → Leaves n w r v
+leaves-as {w = w} {v = v} {r = r} e = subst (λ (x : Res Heap). Leaves x w r v) e
+
+-- cells that do not count
+
+module _ (own : ℕ) (old new : Cell) (h : Heap) where
+  pub only-in : crosses own old ≡ false → onCounts own (countIn own new) h ≡ onCounts own (recounted own true old new) h
   unfolding onCounts recounted
-  out-refused q e =
-      let (m, k) = refused-of l e in
-      let n : countOut own old (barOf own (decode w)) ≡ refuse q = no-step (λ x. onBar own x (decode w)) _ q m in
-      rw e (left-refused q (rw n) k)
+  only-in e = rw (counts-out own .apart old (barOf own h) e)
 
-  gone : r₁ ≡ Done → (d : Barrier) × (countOut own old (barOf own (decode w)) ≡ ok d) × Image w₁ (onBar own d (decode w))
-  unfolding onCounts
-  gone e = some-barrier (λ x. onBar own x (decode w)) (countOut own old (barOf own (decode w))) l e
+  pub only-out : crosses own new ≡ false → onCounts own (countOut own old) h ≡ onCounts own (recounted own true old new) h
+  unfolding onCounts recounted
+  only-out e = go (countOut own old (barOf own h))
+    where
+      go : (m : Res Barrier) → (m >>= λ x. ok (onBar own x h)) ≡ ((m >>= countIn own new) >>= λ x. ok (onBar own x h))
+      go (ok x) = rw (counts-in own .apart new x e)
+      go (refuse q) = refl
 
-  pub out-formed : r₁ ≡ Done → Image w₁ (decode w₁)
-  out-formed e = let (d, o, j) = gone e in decoded j
-
-  -- a step on what the first one left
-  next : (c : Cell) (d : Barrier) → Image w₁ (onBar own d (decode w)) → onCounts own (countIn own c) (decode w₁) ≡ (countIn own c d >>= λ x. ok (onBar own x (decode w)))
-  unfolding onCounts
-  next c d j = rw (image-decode j, bar-on own d (decode w)) (over-step own d (decode w) (countIn own c d))
-
-  module _ {w₂ : List ℕ} {r₂ : Stored} (e : r₁ ≡ Done) (l₂ : Leaves (onCounts own (countIn own new) (decode w₁)) w₁ r₂ w₂) where
-    pub both-done : r₂ ≡ Done → Leaves whole w Done w₂
-    unfolding onCounts recounted
-    both-done f =
-        let (d, o, j) = gone e in
-        let (x, n, k) = some-barrier (λ x. onBar own x (decode w)) (countIn own new d) (rw (next new d j) at l₂) f in
-        rw (o, n) (done k)
-
-    pub in-formed : (q : ℕ) → r₂ ≡ Refused q → Image w₂ (decode w₂)
-    in-formed q f = rw (refused-of l₂ f .1) (out-formed e)
-
-    pub undone-leaves : {w₃ : List ℕ} {r₃ : Stored} (q : ℕ) → r₂ ≡ Refused q → Leaves (onCounts own (countIn own old) (decode w₂)) w₂ r₃ w₃ → Leaves whole w (Refused q) w₃
-    unfolding onCounts recounted
-    undone-leaves {w₃} q f l₃ =
-        let (d, o, j) = gone e in
-        let (m, k) = refused-of (rw (next new d j) at l₂) f in
-        let n : countIn own new d ≡ refuse q = no-step (λ x. onBar own x (decode w)) (countIn own new d) q m in
-        let back : countIn own old d ≡ ok (barOf own (decode w)) = undone own old new (barOf own (decode w)) d q (bar-fit i own) o n in
-        let g : Image w₃ (decode w) = rw (bar-same own (decode w)) at (ok-of (rw (k, next old d j, back) at l₃)) in
-        left-refused q (rw (o, n)) (g .is ∙ sym (i .is))
+pub neither : {w : List ℕ} → Image w (decode w) → (own : ℕ) (old new : Cell) → crosses own old ≡ false → crosses own new ≡ false → Leaves (onCounts own (recounted own true old new) (decode w)) w Done w
+unfolding onCounts recounted
+neither {w} i own old new e f = rw (counts-out own .apart old (barOf own (decode w)) e, counts-in own .apart new (barOf own (decode w)) f, bar-same own (decode w)) (done i)

@@ -38,7 +38,7 @@ done-of : {m : Res Heap} {w v : List ℕ} {r : Stored} → Leaves m w r v → r 
 done-of (done {h = h} i) e = (h, refl, i)
 done-of kept e = let z : _≡_ {A = ℕ} 0 1 = cc in absurd (omega arith)
 
-pub refused-of : {m : Res Heap} {w v : List ℕ} {r : Stored} {q : ℕ} → Leaves m w r v → r ≡ Refused q → (m ≡ refuse q) × (v ≡ w)
+refused-of : {m : Res Heap} {w v : List ℕ} {r : Stored} {q : ℕ} → Leaves m w r v → r ≡ Refused q → (m ≡ refuse q) × (v ≡ w)
 refused-of {q = q} (done i) e = let z : _≡_ {A = ℕ} 0 1 = cc in absurd (omega arith)
 refused-of {q = q} (kept {q = p}) e = let z : p ≡ q = cc in (ap refuse z, refl)
 
@@ -51,7 +51,7 @@ pub left-refused : {m : Res Heap} {w v : List ℕ} (q : ℕ) → m ≡ refuse q 
 left-refused q e f = rw (e, f) kept
 
 -- the barrier that was counted
-pub some-barrier : (f : Barrier → Heap) (m : Res Barrier) {w v : List ℕ} {r : Stored} → Leaves (m >>= λ b. ok (f b)) w r v → r ≡ Done → (b : Barrier) × (m ≡ ok b) × Image v (f b)
+some-barrier : (f : Barrier → Heap) (m : Res Barrier) {w v : List ℕ} {r : Stored} → Leaves (m >>= λ b. ok (f b)) w r v → r ≡ Done → (b : Barrier) × (m ≡ ok b) × Image v (f b)
 some-barrier f (ok b) l e = let (h, p, i) = done-of l e in let q : h ≡ f b = cc in (b, refl, rw (← q) i)
 some-barrier f (refuse q) l e = let (h, p, i) = done-of l e in let z : _≡_ {A = ℕ} 0 1 = cc in absurd (omega arith)
 

@@ -8,6 +8,7 @@ use places::Place;
 use slots::Old;
 use value::Pointer;
 use value::Value;
+use value::Words;
 ghost use mathlib.Core.Path.{_≡_};
 ghost use mathlib.Core.Bool.{true};
 ghost use mathlib.Core.List.{[]};
@@ -15,7 +16,7 @@ ghost use Prim.Native.Nat.{_<_};
 ghost use lib.ListN.{length, getD};
 ghost use mir.Syntax.{w64};
 ghost use mir.Val.{ofZ};
-ghost use Rattle.model.specs.Records.{blank};
+ghost use Rattle.model.specs.Records.{blank, cellOf, validWords};
 ghost use Rattle.model.specs.Image.{decode};
 ghost use Rattle.model.specs.Collector.{read, write};
 ghost use Rattle.model.specs.Calls.{valueGood, writeOn, left, writes, call};
@@ -23,7 +24,7 @@ ghost use Rattle.theorems.specs.Fit.{Image};
 ghost use Rattle.value.specs.Value.{valueCell};
 ghost use Rattle.trace.specs.Words.{pointer};
 ghost use Rattle.fields.specs.Fields.{cellIn};
-ghost use Rattle.access.specs.Access.{pointerOf, loadedCell, storedOutcome, readIn};
+ghost use Rattle.access.specs.Access.{pointerOf, storedOutcome, ValueOf, Loads, LoadsFrom};
 ghost use Rattle.access.specs.Counting.{countYoung, countOld, storeYoung, storeOld, Leaves};
 
 // Refused has the number of the question that got a no.
@@ -37,19 +38,26 @@ pub enum Stored {
     Refused(u64),
 }
 
+// The value of a valid cell's words.
+fn cell_value(w: Words) -> Value
+    requires { ⌜ validWords (w .tag) (w .payload) (w .offset) ≡ true ⌝ }
+    ensures { λ r. ⌜ ValueOf (cellOf (w .tag) (w .payload) (w .offset)) r ⌝ }
+{
+    value::value_of(w.tag, w.payload, w.offset)
+}
+
 // The nursery's i-th cell.
 fn young_value(image: &[u64], i: usize) -> Value
     requires { ⌜ Image (now image) (decode (now image)) ⌝ }
     requires { ⌜ i < decode (now image) .size .n ⌝ }
-    ensures { λ r. ⌜ valueCell r ≡ getD (decode (now (image .entry)) .young .cells) i blank ⌝ }
+    ensures { λ r. ⌜ ValueOf (getD (decode (now (image .entry)) .young .cells) i blank) r ⌝ }
 {
-    let w = fields::young_cell(image, i);
-    value::value_of(w.tag, w.payload, w.offset)
+    cell_value(fields::young_cell(image, i))
 }
 
 fn read_young(image: &[u64], base: u64, offset: i64) -> Loaded
     requires { ⌜ Image (now image) (decode (now image)) ⌝ }
-    ensures { λ r. ⌜ loadedCell r ≡ read (decode (now (image .entry))) (pointer 0 base (ofZ w64 offset)) ⌝ }
+    ensures { λ r. ⌜ Loads (read (decode (now (image .entry))) (pointer 0 base (ofZ w64 offset))) r ⌝ }
 {
     let n = fields::size_n(image) as usize;
     match places::index(base, offset, n) {
@@ -61,19 +69,23 @@ fn read_young(image: &[u64], base: u64, offset: i64) -> Loaded
 // A negative offset's word is above every length, and so outside the allocation.
 fn read_old(image: &[u64], base: u64, offset: i64) -> Loaded
     requires { ⌜ Image (now image) (decode (now image)) ⌝ }
-    ensures { λ r. ⌜ loadedCell r ≡ read (decode (now (image .entry))) (pointer 1 base (ofZ w64 offset)) ⌝ }
+    ensures { λ r. ⌜ Loads (read (decode (now (image .entry))) (pointer 1 base (ofZ w64 offset))) r ⌝ }
 {
     let o = value::unsigned(offset);
     let Old::At(tag, payload, spare) = layout::read_elder(image, base, o) else {
         return Loaded::Refused(8);
     };
-    Loaded::Value(value::value_of(tag, payload, spare))
+    Loaded::Value(cell_value(Words {
+        tag,
+        payload,
+        offset: spare,
+    }))
 }
 
 // Any other heap: 8.
 pub fn read_formed(image: &[u64], p: Pointer) -> Loaded
     requires { ⌜ Image (now image) (decode (now image)) ⌝ }
-    ensures { λ r. ⌜ loadedCell r ≡ read (decode (now (image .entry))) (pointerOf p) ⌝ }
+    ensures { λ r. ⌜ Loads (read (decode (now (image .entry))) (pointerOf p)) r ⌝ }
 {
     let heap = p.heap;
     match heap {
@@ -84,7 +96,7 @@ pub fn read_formed(image: &[u64], p: Pointer) -> Loaded
 }
 
 pub fn read(image: &[u64], p: Pointer) -> Loaded
-    ensures { λ r. ⌜ loadedCell r ≡ readIn (now (image .entry)) (pointerOf p) ⌝ }
+    ensures { λ r. ⌜ LoadsFrom (now (image .entry)) (pointerOf p) r ⌝ }
 {
     match image::check(image) {
         Checked::Formed => read_formed(image, p),

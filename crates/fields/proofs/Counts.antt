@@ -1,12 +1,12 @@
--- One count of a barrier, read and set where it stands.
-use mathlib.Core.Path.{_≡_, refl, sym, ap, _∙_}
+-- A barrier by its heap, and one count of it, set where it stands.
+use mathlib.Core.Path.{_≡_, refl}
 use mathlib.Core.List.{List}
 use Prim.Native.Nat.{ℕ, zero, suc, _+_, _≤_, _<_}
+use native.Mathlib.Omega.{arith}
 use lib.Dec.{eqb}
 use lib.ListN.{getD, take, drop, set}
-use lib.Seq.{getD-take, getD-drop}
 use borrow.Rule.Slice.PartMut.{putMid, set-mid-at}
-use Rattle.model.specs.Barrier.{Barrier, absent, present, most, counts, count}
+use Rattle.model.specs.Barrier.{Barrier, absent, present, most, counts}
 use Rattle.model.specs.Heap.{Heap}
 use Rattle.model.specs.Image.{flag}
 use Rattle.theorems.specs.Fit.{FitBarrier, Image}
@@ -19,6 +19,19 @@ use Rattle.fields.proofs.Turned.{young-flag, old-flag, young-put, old-p
 pub elder-own : (own : ℕ) → (own ≡ 0 → ⊥) → (flagAt own ≡ 9) × (countsAt own ≡ oldCountsAt)
 elder-own zero ne = absurd (ne refl)
 elder-own (suc k) ne = (refl, refl)
+
+-- a barrier that was read, by its heap
+
+module _ {w : List ℕ} {b : Barrier} where
+  pub young-bar : (own : ℕ) → own ≡ 0 → Reads (λ h. h .young .bar) w b → Reads (λ h. barOf own h) w b
+  unfolding barOf
+  young-bar zero e r = r
+  young-bar (suc k) e r = absurd (omega arith)
+
+  pub old-bar : (own : ℕ) → (own ≡ 0 → ⊥) → Reads (λ h. h .old .bar) w b → Reads (λ h. barOf own h) w b
+  unfolding barOf
+  old-bar zero ne r = absurd (ne refl)
+  old-bar (suc k) ne r = r
 
 module _ {w : List ℕ} {h : Heap} (i : Image w h) where
   flag-is : (own : ℕ) → getD w (flagAt own) 0 ≡ flag (barOf own h)
@@ -43,12 +56,6 @@ flag-present (present cs) = refl
 
 pub present-read : {w : List ℕ} (own : ℕ) {at : ℕ} → at ≡ flagAt own → Reads (λ h. isPresent (barOf own h)) w (eqb (getD w at 0) 1)
 present-read own e = record { reads = λ h i. rw (e, flag-is i own) (flag-present (barOf own h)) }
-
-pub count-read : {w : List ℕ} (own k : ℕ) → k < 256 → {at : ℕ} → at ≡ countsAt own + k → Reads (λ h. count (barOf own h) k) w (getD w at 0)
-unfolding count
-count-read {w} own k small e = record {
-  reads = λ h i. rw e (ap (λ (l : List ℕ). getD l k 0) (sym (counts-are i own)) ∙ getD-take 256 (drop (countsAt own) w) k 0 small ∙ getD-drop (countsAt own) w k 0);
-}
 
 module _ {w : List ℕ} {h : Heap} (i : Image w h) (k n : ℕ) (small : k < 256) where
   put-part : (own : ℕ) → putMid (countsAt own) 256 w (set (counts (barOf own h)) k n) ≡ set w (countsAt own + k) n

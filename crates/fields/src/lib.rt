@@ -9,7 +9,7 @@ ghost use mathlib.Core.List.{[], _∷_};
 ghost use Prim.Native.Nat.{_+_, _-_, _*_, _<_, _≤_};
 ghost use lib.ListN.{length, getD};
 ghost use Rattle.model.specs.Records.{blank, cellWords, wholeCells};
-ghost use Rattle.model.specs.Barrier.{most, count};
+ghost use Rattle.model.specs.Barrier.{most};
 ghost use Rattle.model.specs.Image.{decode};
 ghost use Rattle.model.specs.Nursery.{bump, emptied};
 ghost use Rattle.theorems.specs.Fit.{FitBarrier, Image};
@@ -92,6 +92,18 @@ pub fn old_barrier(image: &[u64]) -> WriteBarrier
     )
 }
 
+// The barrier of heap `own`: the nursery's for 0, else the elder's.
+pub fn barrier_of(image: &[u64], own: u8) -> WriteBarrier
+    requires { ⌜ Image (now image) (decode (now image)) ⌝ }
+    ensures { λ r. ⌜ Reads (λ h. barOf own h) (now (image .entry)) (barrierOf r) ⌝ }
+{
+    if own == 0 {
+        young_barrier(image)
+    } else {
+        old_barrier(image)
+    }
+}
+
 pub fn put_young_barrier(image: &mut [u64], b: WriteBarrier)
     requires { ⌜ Image (now image) (decode (now image)) ⌝ }
     requires { ⌜ FitBarrier (barrierOf b) ⌝ }
@@ -137,15 +149,6 @@ pub fn is_present(image: &[u64], own: u8) -> bool
     ensures { λ r. ⌜ Reads (λ h. isPresent (barOf own h)) (now (image .entry)) r ⌝ }
 {
     image[flag_place(own)] == 1
-}
-
-// One count, with no other of the barrier's words loaded.
-pub fn count_at(image: &[u64], own: u8, k: usize) -> u64
-    requires { ⌜ Image (now image) (decode (now image)) ⌝ }
-    requires { ⌜ k < 256 ⌝ }
-    ensures { λ r. ⌜ Reads (λ h. count (barOf own h) k) (now (image .entry)) r ⌝ }
-{
-    image[count_place(own, k)]
 }
 
 // An absent barrier's count words are zero, so that the others are right when it becomes present.

@@ -3,18 +3,18 @@ use mathlib.Core.Path.{_≡_, refl, sym, ap, subst, _∙_}
 use mathlib.Core.List.{List, [], _∷_}
 use Prim.Native.Nat.{ℕ}
 use mir.Syntax.{w64}
-use mir.Val.{ofZ}
-use Rattle.model.specs.Res.{Res, ok, refuse, _>>=_}
-use Rattle.model.specs.Records.{Ptr, Cell, cellWords}
-use Rattle.model.specs.Heap.{Heap}
-use Rattle.model.specs.Collector.{read}
-use Rattle.model.specs.Calls.{Outcome, opened, readOn, reads, call}
+use lib.IntN.{ℤ}
+use mir.Val.{SFits, toZ, ofZ}
+use mir.ValLaws.{toZ-ofZ}
+use Rattle.model.specs.Res.{Res}
+use Rattle.model.specs.Records.{cellWords}
+use Rattle.model.specs.Calls.{Outcome}
 use Rattle.value.specs.declared.Value.{Value}
 use Rattle.value.specs.Value.{valueCell}
 use Rattle.image.specs.Answers.{madeOutcome}
 use Rattle.image.specs.declared.Made.{Made}
 use Rattle.image.specs.declared.Made.the-variants as made
-use Rattle.access.specs.Access.{loadedCell, storedOutcome, readIn}
+use Rattle.access.specs.Access.{loadedCell, loadedOutcome, storedOutcome}
 use Rattle.access.specs.declared.Loaded.{Loaded}
 use Rattle.access.specs.declared.Loaded.the-variants as loaded
 use Rattle.access.specs.declared.Stored.{Stored}
@@ -32,6 +32,10 @@ use Rattle.figure.specs.declared.Figure.{Figure}
 use Rattle.figure.specs.declared.Figured.{Figured}
 use Rattle.figure.specs.declared.Figured.the-variants as figured
 use Rattle.heap_c.specs.Replies.{numberOf, outOf, wordsOf, allocationWords, figureWords, figureAnswer, Answers, Leaves, Reports, Allocates}
+
+-- an i64 that is handed on, as the machine reads it back
+pub as-given : (x : ℤ) → SFits w64 x → {A : Type 0} (f : ℤ → A) {a : A} → f (toZ w64 (ofZ w64 x)) ≡ a → f x ≡ a
+as-given x s f e = ap f (sym (toZ-ofZ w64 x s)) ∙ e
 
 -- new
 
@@ -63,14 +67,11 @@ pub loaded-refused : {r : Loaded} {q : ℕ} {before : List ℕ} → r ≡ loaded
 unfolding numberOf outOf wordsOf loadedCell
 loaded-refused {q = q} {before = before} e = subst (λ (r : Loaded). Answers (wordsOf (loadedCell r)) before q before) (sym e) (record { number = refl; written = refl })
 
--- the words of the cell that is read, whether 1 and 2 were asked before or not
-pub read-words : (w : List ℕ) (p : Ptr) → wordsOf (readIn w p) ≡ call (reads p) w .answer
-unfolding wordsOf call readOn
-read-words w p = go (opened w)
-  where
-    go : (r : Res Heap) → wordsOf (r >>= λ h. read h p) ≡ (r >>= λ h. readOn h p)
-    go (ok h) = refl
-    go (refuse q) = refl
+-- the words of the cell that is read are the call's
+pub loaded-words : (r : Loaded) {o : Outcome} (w : List ℕ) → o ≡ loadedOutcome r w → wordsOf (loadedCell r) ≡ o .answer
+unfolding wordsOf loadedCell loadedOutcome
+loaded-words (loaded.Value v) w e = ap (λ (o : Outcome). o .answer) (sym e)
+loaded-words (loaded.Refused q) w e = ap (λ (o : Outcome). o .answer) (sym e)
 
 -- alloc
 

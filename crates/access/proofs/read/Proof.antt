@@ -1,8 +1,8 @@
 use borrow.Author.Needs.{needs}
-use mathlib.Core.Path.{_∙_}
-use Rattle.model.specs.Collector.{read}
-use Rattle.access.specs.Access.{pointerOf, loadedCell}
+use Rattle.model.specs.Calls.{readOn}
+use Rattle.access.specs.Access.{pointerOf}
 use Rattle.image.proofs.Opened.{formed-image, formed-opened, refused-opened}
+use Rattle.access.proofs.Answers.{loads-formed, loads-unformed}
 use Rattle.access.proofs.read.Statement.{statement}
 use Rattle.access.proofs.read.Tie as tie
 
@@ -19,11 +19,14 @@ enum-known-q : tie.Need-enum-known-q
 enum-known-q c = search needs
 
 returns : tie.Need-returns
-returns c = c .read-formed .ensures ∙ formed-opened _ (c .before .before .before .check .ensures) (λ h. read h (pointerOf (c .before .before .before .before .before .args .p))) (c .before .enum-told .given .1)
+returns c =
+    let s = c .before .before .before .before .before in
+    loads-formed _ (pointerOf (s .args .p)) (formed-opened _ (c .before .before .before .check .ensures) (λ h. readOn h (pointerOf (s .args .p))) (c .before .enum-told .given .1)) (c .read-formed .ensures)
 
 returns-2 : tie.Need-returns-2
-unfolding loadedCell
-returns-2 c = refused-opened _ (c .before .before .before .check .ensures) (λ h. read h (pointerOf (c .before .before .before .before .before .args .p))) _ (c .before .q .given .1)
+returns-2 c =
+    let s = c .before .before .before .before .before in
+    loads-unformed _ (pointerOf (s .args .p)) _ (refused-opened _ (c .before .before .before .check .ensures) (λ h. readOn h (pointerOf (s .args .p))) _ (c .before .q .given .1))
 
 pub read-spec : {M : Type 1} → statement M
 read-spec =

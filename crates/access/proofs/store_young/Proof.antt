@@ -25,7 +25,7 @@ put-young-cell-requires c κs =
     let s = c .before .before .before .before .before .before .before .before .before .before .before .before .before .before in
     let n = c .before .before .before .before .before in
     let k = n .before .before in
-    young-there _ _ (ap (ltb (s .args .i)) (sym (k .cursor .ensures .reads _ (s .pre .0)))) (k .before .before .before .young-value .ensures) (k .before .before .new-value .ensures) (s .pre .1 .1) (n .count-young .ensures) (c .before .enum-told .given .1) (s .pre .1 .0)
+    young-there _ _ (ap (ltb (s .args .i)) (sym (k .cursor .ensures .reads _ (s .pre .0)))) (k .before .before .before .young-value .ensures .cell) (k .before .before .new-value .ensures) (s .pre .1 .1) (n .count-young .ensures) (c .before .enum-told .given .1) (s .pre .1 .0)
 
 enum-known-q : tie.Need-enum-known-q
 enum-known-q c = search needs
@@ -38,7 +38,7 @@ returns c =
     let s = c .before .before .before .before .before .before .before .before .before .before .before .before .before .before .before .before .before in
     let n = c .before .before .before .before .before .before .before .before in
     let k = n .before .before in
-    young-stored _ _ (ap (ltb (s .args .i)) (sym (k .cursor .ensures .reads _ (s .pre .0)))) (k .before .before .before .young-value .ensures) (k .before .before .new-value .ensures) (s .pre .1 .1) (n .count-young .ensures) (c .before .before .before .before .enum-told .given .1) (c .before .before .put-young-cell .ensures)
+    young-stored _ _ (ap (ltb (s .args .i)) (sym (k .cursor .ensures .reads _ (s .pre .0)))) (k .before .before .before .young-value .ensures .cell) (k .before .before .new-value .ensures) (s .pre .1 .1) (n .count-young .ensures) (c .before .before .before .before .enum-told .given .1) (c .before .before .put-young-cell .ensures)
 
 same-length-2 : tie.Need-same-length-2
 same-length-2 c = search needs
@@ -48,7 +48,7 @@ returns-2 c =
     let s = c .before .before .before .before .before .before .before .before .before .before .before .before .before .before in
     let n = c .before .before .before .before .before in
     let k = n .before .before in
-    young-refused _ _ (ap (ltb (s .args .i)) (sym (k .cursor .ensures .reads _ (s .pre .0)))) (k .before .before .before .young-value .ensures) (k .before .before .new-value .ensures) (s .pre .1 .1) (n .count-young .ensures) _ (c .before .q .given .1)
+    young-refused _ _ (ap (ltb (s .args .i)) (sym (k .cursor .ensures .reads _ (s .pre .0)))) (k .before .before .before .young-value .ensures .cell) (k .before .before .new-value .ensures) (s .pre .1 .1) (n .count-young .ensures) _ (c .before .q .given .1)
 
 pub store-young-spec : {M : Type 1} → statement M
 store-young-spec =

@@ -14,7 +14,7 @@ use Rattle.access.proofs.write_old.Tie as tie
 was-read : (c : tie.After-read-old) → loadedCell (c .read-old .result) ≡ read (decode (c .before .before .before .before .args .image .now)) (pointer 1 (c .before .before .before .before .args .base) (ofZ w64 (c .before .before .before .before .args .offset)))
 was-read c =
     let s = c .before .before .before .before in
-    rw (toZ-ofZ w64 (s .args .offset) (s .fits .offset)) at (c .read-old .ensures)
+    rw (toZ-ofZ w64 (s .args .offset) (s .fits .offset)) at (c .read-old .ensures .cell)
 
 word : (c : tie.After-unsigned) → c .unsigned .result ≡ ofZ w64 (c .before .before .before .before .before .before .before .before .before .args .offset)
 word c =

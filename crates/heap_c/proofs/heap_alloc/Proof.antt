@@ -1,7 +1,9 @@
 use borrow.Author.Needs.{needs}
+use lib.ListN.{length}
 use mir.Syntax.{w64}
-use mir.ValLaws.{toZ-ofZ}
-use Rattle.heap_c.proofs.Replying.{allocates-as}
+use mir.Val.{ofZ}
+use Rattle.model.specs.Calls.{allocs, call}
+use Rattle.heap_c.proofs.Replying.{as-given, allocates-as}
 use Rattle.heap_c.proofs.heap_alloc.Statement.{statement}
 use Rattle.heap_c.proofs.heap_alloc.Tie as tie
 
@@ -24,7 +26,8 @@ returns : tie.Need-returns
 returns c =
     let g = c .before .before .before .before .before .before .before .before in
     let s = g .before .before .before .before .before .before .before in
-    allocates-as (rw (toZ-ofZ w64 (s .args .amount) (s .fits .amount)) at (g .alloc .ensures)) (c .answer-allocated .ensures _ _)
+    let given = as-given (s .args .amount) (s .fits .amount) (λ x. call (allocs (s .args .roots .now) (length (s .args .scratch .now)) (ofZ w64 x)) (s .args .image .now)) (g .alloc .ensures) in
+    allocates-as given (c .answer-allocated .ensures _ _)
 
 pub heap-alloc-spec : {M : Type 1} → statement M
 heap-alloc-spec =

@@ -1,7 +1,10 @@
 use borrow.Author.Needs.{needs}
+use lib.ListN.{length}
 use mir.Syntax.{w64}
-use mir.ValLaws.{toZ-ofZ}
-use Rattle.heap_c.proofs.Replying.{allocates-as}
+use mir.Val.{ofZ}
+use Rattle.model.specs.Image.{decode}
+use Rattle.model.specs.Calls.{allocOn, allocated}
+use Rattle.heap_c.proofs.Replying.{as-given, allocates-as}
 use Rattle.heap_c.proofs.heap_alloc_formed.Statement.{statement}
 use Rattle.heap_c.proofs.heap_alloc_formed.Tie as tie
 
@@ -24,7 +27,10 @@ returns : tie.Need-returns
 returns c =
     let g = c .before .before .before .before .before .before .before .before in
     let s = g .before .before .before .before .before .before .before in
-    allocates-as (rw (toZ-ofZ w64 (s .args .amount) (s .fits .amount)) at (g .alloc-formed .ensures)) (c .answer-allocated .ensures _ _)
+    let w = s .args .image .now in
+    let roots = s .args .roots .now in
+    let given = as-given (s .args .amount) (s .fits .amount) (λ x. allocated w roots (allocOn (decode w) roots (length (s .args .scratch .now)) (ofZ w64 x))) (g .alloc-formed .ensures) in
+    allocates-as given (c .answer-allocated .ensures _ _)
 
 pub heap-alloc-formed-spec : {M : Type 1} → statement M
 heap-alloc-formed-spec =

@@ -1,10 +1,13 @@
 use borrow.Author.Needs.{needs}
-use mathlib.Core.Path.{ap}
+use mathlib.Core.Path.{sym, ap}
 use mir.Syntax.{w64}
-use mir.ValLaws.{toZ-ofZ}
+use mir.Val.{ofZ}
+use Rattle.model.specs.Image.{decode}
+use Rattle.model.specs.Collector.{read}
 use Rattle.model.specs.Calls.{readOn}
+use Rattle.trace.specs.Words.{pointer}
 use Rattle.heap_c.specs.Replies.{wordsOf}
-use Rattle.heap_c.proofs.Replying.{answers-as}
+use Rattle.heap_c.proofs.Replying.{as-given, answers-as}
 use Rattle.heap_c.proofs.heap_read_formed.Statement.{statement}
 use Rattle.heap_c.proofs.heap_read_formed.Tie as tie
 
@@ -18,7 +21,8 @@ returns : tie.Need-returns
 unfolding readOn wordsOf
 returns c =
     let s = c .before .before .before .before in
-    answers-as (ap wordsOf (rw (toZ-ofZ w64 (s .args .offset) (s .fits .offset)) at (c .before .before .read-formed .ensures))) (c .answer-loaded .ensures)
+    let given = as-given (s .args .offset) (s .fits .offset) (λ x. read (decode (s .args .image .now)) (pointer (s .args .heap) (s .args .base) (ofZ w64 x))) (sym (c .before .before .read-formed .ensures .cell)) in
+    answers-as (ap wordsOf (sym given)) (c .answer-loaded .ensures)
 
 pub heap-read-formed-spec : {M : Type 1} → statement M
 heap-read-formed-spec = tie.close (tie.spec read-formed-requires answer-loaded-requires returns)

@@ -1,7 +1,9 @@
 use borrow.Author.Needs.{needs}
 use mir.Syntax.{w64}
-use mir.ValLaws.{toZ-ofZ}
-use Rattle.heap_c.proofs.Replying.{leaves-as}
+use mir.Val.{ofZ}
+use Rattle.model.specs.Calls.{writes, call}
+use Rattle.trace.specs.Words.{pointer}
+use Rattle.heap_c.proofs.Replying.{as-given, leaves-as}
 use Rattle.heap_c.proofs.heap_write.Statement.{statement}
 use Rattle.heap_c.proofs.heap_write.Tie as tie
 
@@ -17,7 +19,8 @@ same-length c = search needs
 returns : tie.Need-returns
 returns c =
     let s = c .before .before .before .before .before .before .before in
-    leaves-as (rw (toZ-ofZ w64 (s .args .offset) (s .fits .offset)) at (c .before .before .before .write .ensures)) (c .stored-number .ensures _)
+    let given = as-given (s .args .offset) (s .fits .offset) (λ x. call (writes (pointer (s .args .heap) (s .args .base) (ofZ w64 x)) (s .args .cell .now)) (s .args .image .now)) (c .before .before .before .write .ensures) in
+    leaves-as given (c .stored-number .ensures _)
 
 pub heap-write-spec : {M : Type 1} → statement M
 heap-write-spec = tie.close (tie.spec write-requires stored-number-requires same-length returns)

@@ -1,7 +1,10 @@
 use borrow.Author.Needs.{needs}
 use mir.Syntax.{w64}
-use mir.ValLaws.{toZ-ofZ}
-use Rattle.heap_c.proofs.Replying.{leaves-as}
+use mir.Val.{ofZ}
+use Rattle.model.specs.Image.{decode}
+use Rattle.model.specs.Calls.{writeOn, left}
+use Rattle.trace.specs.Words.{pointer}
+use Rattle.heap_c.proofs.Replying.{as-given, leaves-as}
 use Rattle.heap_c.proofs.heap_write_formed.Statement.{statement}
 use Rattle.heap_c.proofs.heap_write_formed.Tie as tie
 
@@ -17,7 +20,9 @@ same-length c = search needs
 returns : tie.Need-returns
 returns c =
     let s = c .before .before .before .before .before .before .before in
-    leaves-as (rw (toZ-ofZ w64 (s .args .offset) (s .fits .offset)) at (c .before .before .before .write-formed .ensures)) (c .stored-number .ensures _)
+    let w = s .args .image .now in
+    let given = as-given (s .args .offset) (s .fits .offset) (λ x. left w (writeOn (decode w) (pointer (s .args .heap) (s .args .base) (ofZ w64 x)) (s .args .cell .now))) (c .before .before .before .write-formed .ensures) in
+    leaves-as given (c .stored-number .ensures _)
 
 pub heap-write-formed-spec : {M : Type 1} → statement M
 heap-write-formed-spec =
