@@ -1,5 +1,5 @@
 // The elder generation's steps on an image: a collection, and an allocation placed. Each contract speaks of every heap of which
-// the words are the image; after a refusal the words are free, and whoever called puts the image back.
+// the words are the image; after a refusal the words are free, and whoever called puts the image back, but `collect_all` leaves them.
 use barrier::Counted;
 use barrier::Counting;
 use barrier::WriteBarrier;
@@ -8,6 +8,7 @@ use layout::Fit;
 use layout::places;
 ghost use mathlib.Core.Path.{_≡_};
 ghost use mathlib.Core.Bool.{true};
+ghost use mathlib.Core.List.{[]};
 ghost use Prim.Native.Nat.{_+_, _*_, _/_, _≤_, _<_};
 ghost use lib.Dec.{leb};
 ghost use lib.ListN.{length};
@@ -22,7 +23,7 @@ ghost use Rattle.theorems.specs.Does.{Does};
 ghost use Rattle.barrier.specs.Counts.{barrierOf, counted, countingAnswer};
 ghost use Rattle.trace.specs.Words.{members};
 ghost use Rattle.fields.specs.Fields.{Reads, Turns, onOld};
-ghost use Rattle.elder.specs.Steps.{Listed, swept, sweptAnswer, placedAnswer, collectStep, countStep, placeStep, blankStep};
+ghost use Rattle.elder.specs.Steps.{Listed, swept, sweptAnswer, placedAnswer, Collects, collectWith, collectStep, countStep, placeStep, blankStep};
 
 // The bound of the collections counter.
 const MOST: u64 = 4294967295;
@@ -100,16 +101,15 @@ fn sweep(image: &mut [u64], list: &[u64], count: usize, b: WriteBarrier)
     fields::count_old_collection(image);
 }
 
-// A collection. Its members are listed in the lent words.
-pub fn collect(image: &mut [u64], roots: &[u64], masks: &[u64], list: &mut [u64]) -> Swept
+// A collection with these members.
+fn collect_with(image: &mut [u64], list: &[u64], count: usize) -> Swept
     requires { ⌜ Image (now image) (decode (now image)) ⌝ }
-    requires { ⌜ 3 * (length (now roots) / 3 + decode (now image) .size .s + decode (now image) .size .c) ≤ length (now list) ⌝ }
-    ensures { λ r. ⌜ Does (collectStep (cellsIn (now (roots .entry))) (now (masks .entry))) (now (image .entry)) (sweptAnswer r) (now (image .exit)) ⌝ }
+    requires { ⌜ 3 * count ≤ length (now list) ⌝ }
+    ensures { λ r. ⌜ Collects (collectWith (members count (now (list .entry)))) (now (image .entry)) r (now (image .exit)) ⌝ }
 {
     if MOST <= fields::old_collections(image) {
         return Swept::Refused(11);
     }
-    let count = members(image, roots, masks, list);
     let c = count_dropped(image, list, count);
     let a = c.answer;
     match a {
@@ -120,6 +120,25 @@ pub fn collect(image: &mut [u64], roots: &[u64], masks: &[u64], list: &mut [u64]
         }
         Counting::Refused(q) => Swept::Refused(q),
     }
+}
+
+// A collection. Its members are listed in the lent words.
+pub fn collect(image: &mut [u64], roots: &[u64], masks: &[u64], list: &mut [u64]) -> Swept
+    requires { ⌜ Image (now image) (decode (now image)) ⌝ }
+    requires { ⌜ 3 * (length (now roots) / 3 + decode (now image) .size .s + decode (now image) .size .c) ≤ length (now list) ⌝ }
+    ensures { λ r. ⌜ Does (collectStep (cellsIn (now (roots .entry))) (now (masks .entry))) (now (image .entry)) (sweptAnswer r) (now (image .exit)) ⌝ }
+{
+    let count = members(image, roots, masks, list);
+    collect_with(image, list, count)
+}
+
+// A collection without roots and masks has no members: nothing is traced, and every allocation leaves.
+pub fn collect_all(image: &mut [u64]) -> Swept
+    requires { ⌜ Image (now image) (decode (now image)) ⌝ }
+    ensures { λ r. ⌜ Collects (collectStep [] []) (now (image .entry)) r (now (image .exit)) ⌝ }
+{
+    let none = [0u64; 1];
+    collect_with(image, &none[..0], 0)
 }
 
 // ---- Placing

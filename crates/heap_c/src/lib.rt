@@ -239,7 +239,7 @@ fn answer_reported(r: Reported, out: &mut [u64; 11]) -> u64
 pub extern "C" fn heap_report(image: &mut [u64], out: &mut [u64; 11]) -> u64
     ensures { λ r. ⌜ Reports (reportCall (now (image .entry))) (now (out .entry)) r (now (out .exit)) (now (image .exit)) ⌝ }
 {
-    answer_reported(report::report(image), out)
+    answer_reported(report::report_lent(image), out)
 }
 
 #[no_mangle]
@@ -247,7 +247,7 @@ pub extern "C" fn heap_report_formed(image: &mut [u64], out: &mut [u64; 11]) -> 
     requires { ⌜ Image (now image) (decode (now image)) ⌝ }
     ensures { λ r. ⌜ Reports (reported (now (image .entry)) (report (decode (now (image .entry))))) (now (out .entry)) r (now (out .exit)) (now (image .exit)) ⌝ }
 {
-    answer_reported(report::report_formed(image), out)
+    answer_reported(report::report_lent_formed(image), out)
 }
 
 // ---- Figure

@@ -1,6 +1,6 @@
 // The image of a heap: where its parts stand, a fresh one, and questions 1 to 4 over any words.
 mod cells;
-mod counts;
+pub mod counts;
 mod form;
 pub mod layout;
 mod lengths;

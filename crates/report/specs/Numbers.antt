@@ -1,16 +1,9 @@
--- The report's numbers as document 01 lists them, its answers, and what it leaves of the heap.
+-- The report's numbers as document 01 lists them, and its answers.
 use mathlib.Core.Path.{_≡_}
 use mathlib.Core.List.{List, [], _∷_}
 use Prim.Native.Nat.{ℕ, zero, suc, _<_}
 use Rattle.model.specs.Res.{Res, ok, refuse}
-use Rattle.model.specs.Barrier.{Barrier}
-use Rattle.model.specs.Heap.{Heap}
-use Rattle.model.specs.Nursery.{emptied}
-use Rattle.model.specs.Image.{decode}
-use Rattle.model.specs.Collector.{report}
-use Rattle.model.specs.Calls.{Outcome, reported}
-use Rattle.fields.specs.Fields.{onYoung, onOld}
-use Rattle.elder.specs.Steps.{swept}
+use Rattle.model.specs.Calls.{Outcome}
 use Rattle.report.specs.declared.Nursery.{Nursery}
 use Rattle.report.specs.declared.Elder.{Elder}
 use Rattle.report.specs.declared.Statistics.{Statistics}
@@ -33,16 +26,22 @@ unfoldable pub reportOutcome : Reported → List ℕ → Outcome
 reportOutcome (Taken s) v = record { answer = ok (numbers s); image = v; roots = [] }
 reportOutcome (Refused q) v = record { answer = refuse q; image = v; roots = [] }
 
--- what is in the record that the caller lent, with the answered number
+-- what is answered through a record that the caller lends, and what the record then holds
+
+unfoldable pub questionOf : Reported → ℕ
+questionOf (Taken s) = 0
+questionOf (Refused q) = q
+
+unfoldable pub recordOf : Reported → Statistics → Statistics
+recordOf (Taken s) old = s
+recordOf (Refused q) old = old
+
+-- the answer of a number and a record
 unfoldable pub recordAnswer : ℕ → Statistics → Res (List ℕ)
 recordAnswer zero s = ok (numbers s)
 recordAnswer (suc q) s = refuse (suc q)
 
 -- the report is in the record, or the record is as it was
-pub record Fills (w : List ℕ) (old : Statistics) (q : ℕ) (new : Statistics) (v : List ℕ) : Type 0 where
-  pub outcome : reported w (report (decode w)) ≡ record { answer = recordAnswer q new; image = v; roots = [] }
+pub record Fills (o : Outcome) (old : Statistics) (q : ℕ) (new : Statistics) (v : List ℕ) : Type 0 where
+  pub outcome : o ≡ record { answer = recordAnswer q new; image = v; roots = [] }
   pub kept : 0 < q → new ≡ old
-
--- both generations collected without members; the elder has this barrier
-unfoldable pub cleared : Barrier → Heap → Heap
-cleared b h = onYoung (λ y. emptied y 0) (onOld (swept [] b) h)

@@ -1,27 +1,21 @@
 // The report: its numbers are taken, then both generations are collected without roots or masks, so that no allocation stays.
-// `report` takes any words, `report_formed` an image that 1 and 2 were asked of.
-use barrier::Counted;
-use barrier::Counting;
-use barrier::WriteBarrier;
+// The functions named `_formed` take an image that 1 and 2 were asked of, the others any words.
+use elder::Swept;
 use image::Checked;
+use image::counts::MOST;
 use layout::places;
 ghost use mathlib.Core.Path.{_≡_};
 ghost use mathlib.Core.List.{List, []};
-ghost use Prim.Native.Nat.{ℕ, _<_};
+ghost use Prim.Native.Nat.{ℕ};
 ghost use lib.ListN.{length, take, drop};
 ghost use Rattle.model.specs.Lists.{places, sum};
-ghost use Rattle.model.specs.Barrier.{most, counts};
+ghost use Rattle.model.specs.Barrier.{counts};
 ghost use Rattle.model.specs.Image.{decode};
-ghost use Rattle.model.specs.Elder.{countDropped};
 ghost use Rattle.model.specs.Collector.{statistics, report};
 ghost use Rattle.model.specs.Calls.{reported, reportCall};
-ghost use Rattle.theorems.specs.Fit.{FitBarrier, Image};
-ghost use Rattle.barrier.specs.Counts.{barrierOf, counted};
-ghost use Rattle.fields.specs.Fields.{Reads, Turns};
-ghost use Rattle.report.specs.Numbers.{youngNumbers, oldNumbers, numbers, reportOutcome, recordAnswer, Fills, cleared};
-
-// The bound of the collections counters.
-const MOST: u64 = 4294967295;
+ghost use Rattle.theorems.specs.Fit.{Image};
+ghost use Rattle.fields.specs.Fields.{Reads};
+ghost use Rattle.report.specs.Numbers.{youngNumbers, oldNumbers, numbers, reportOutcome, questionOf, recordOf, recordAnswer, Fills};
 
 // References are the sum of a barrier's counts, free what is left of the cells.
 pub struct Nursery {
@@ -152,35 +146,7 @@ fn take_numbers(image: &[u64]) -> Statistics
     }
 }
 
-// ---- Both collections
-
-// All elder cells counted out: there are no members.
-fn count_out(image: &[u64]) -> Counted
-    requires { ⌜ Image (now image) (decode (now image)) ⌝ }
-    ensures { λ r. ⌜ Reads (λ h. countDropped [] 0 (h .old .slots) (h .old .bar)) (now (image .entry)) (counted r) ⌝ }
-{
-    let l = places::layout_of(image);
-    let from = l.slots;
-    let end = l.young;
-    let at = l.old;
-    let none = [0u64; 1];
-    let b = fields::old_barrier(image);
-    drops::count_dropped(&image[from..end], &image[at..], &none[..0], 0, b)
-}
-
-// Every allocation leaves; the elder has this barrier.
-fn clear(image: &mut [u64], b: WriteBarrier)
-    requires { ⌜ Image (now image) (decode (now image)) ⌝ }
-    requires { ⌜ FitBarrier (barrierOf b) ⌝ }
-    requires { ⌜ (decode (now image) .young .colls < most) × (decode (now image) .old .colls < most) ⌝ }
-    ensures { λ _. ⌜ Turns (cleared (barrierOf b)) (now (image .entry)) (now (image .exit)) ⌝ }
-{
-    let none = [0u64; 1];
-    fields::put_old_barrier(image, b);
-    layout::keep_members(image, &none[..0], 0);
-    fields::count_old_collection(image);
-    fields::empty_nursery(image, 0);
-}
+// ---- The report
 
 // The nursery's counter is asked first, then the elder's, then the counts.
 pub fn report_formed(image: &mut [u64]) -> Reported
@@ -188,23 +154,16 @@ pub fn report_formed(image: &mut [u64]) -> Reported
     ensures { λ r. ⌜ reported (now (image .entry)) (report (decode (now (image .entry)))) ≡ reportOutcome r (now (image .exit)) ⌝ }
 {
     let s = take_numbers(image);
-    let young = s.nursery.collections;
-    let old = s.elder.collections;
-    if MOST <= young {
+    let collections = s.nursery.collections;
+    if MOST <= collections {
         return Reported::Refused(11);
     }
-    if MOST <= old {
-        return Reported::Refused(11);
-    }
-    let c = count_out(image);
-    let a = c.answer;
-    match a {
-        Counting::Done => {
-            let b = c.barrier;
-            clear(image, b);
+    match elder::collect_all(image) {
+        Swept::Done(_) => {
+            fields::empty_nursery(image, 0);
             Reported::Taken(s)
         }
-        Counting::Refused(q) => Reported::Refused(q),
+        Swept::Refused(q) => Reported::Refused(q),
     }
 }
 
@@ -225,11 +184,10 @@ struct Filled {
     statistics: Statistics,
 }
 
-fn fill(image: &mut [u64], old: Statistics) -> Filled
-    requires { ⌜ Image (now image) (decode (now image)) ⌝ }
-    ensures { λ r. ⌜ Fills (now (image .entry)) old (r .question) (r .statistics) (now (image .exit)) ⌝ }
+fn fill(r: Reported, old: Statistics) -> Filled
+    ensures { λ f. ⌜ (f .question ≡ questionOf r) × (f .statistics ≡ recordOf r old) ⌝ }
 {
-    match report_formed(image) {
+    match r {
         Reported::Taken(s) => Filled {
             question: 0,
             statistics: s,
@@ -243,10 +201,18 @@ fn fill(image: &mut [u64], old: Statistics) -> Filled
 
 // Answers 0, or the number of the question that got a no: then the record stays as it was.
 pub fn report_into(image: &mut [u64], lent: &mut Statistics) -> u64
-    requires { ⌜ Image (now image) (decode (now image)) ⌝ }
-    ensures { λ r. ⌜ Fills (now (image .entry)) (now (lent .entry)) r (now (lent .exit)) (now (image .exit)) ⌝ }
+    ensures { λ r. ⌜ Fills (reportCall (now (image .entry))) (now (lent .entry)) r (now (lent .exit)) (now (image .exit)) ⌝ }
 {
-    let f = fill(image, *lent);
+    let f = fill(report(image), *lent);
+    *lent = f.statistics;
+    f.question
+}
+
+pub fn report_into_formed(image: &mut [u64], lent: &mut Statistics) -> u64
+    requires { ⌜ Image (now image) (decode (now image)) ⌝ }
+    ensures { λ r. ⌜ Fills (reported (now (image .entry)) (report (decode (now (image .entry))))) (now (lent .entry)) r (now (lent .exit)) (now (image .exit)) ⌝ }
+{
+    let f = fill(report_formed(image), *lent);
     *lent = f.statistics;
     f.question
 }
@@ -284,12 +250,21 @@ fn answered(q: u64, s: Statistics) -> Reported
     Reported::Refused(q)
 }
 
-// `report_formed` through a record that is lent: what the program runs.
+// `report` through a record that is lent: what runs for C.
 pub fn report_lent(image: &mut [u64]) -> Reported
+    ensures { λ r. ⌜ reportCall (now (image .entry)) ≡ reportOutcome r (now (image .exit)) ⌝ }
+{
+    let mut s = nothing();
+    let q = report_into(image, &mut s);
+    answered(q, s)
+}
+
+// `report_formed` through a record that is lent: what the program runs.
+pub fn report_lent_formed(image: &mut [u64]) -> Reported
     requires { ⌜ Image (now image) (decode (now image)) ⌝ }
     ensures { λ r. ⌜ reported (now (image .entry)) (report (decode (now (image .entry)))) ≡ reportOutcome r (now (image .exit)) ⌝ }
 {
     let mut s = nothing();
-    let q = report_into(image, &mut s);
+    let q = report_into_formed(image, &mut s);
     answered(q, s)
 }

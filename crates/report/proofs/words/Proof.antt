@@ -1,4 +1,3 @@
-use borrow.Author.Needs.{needs}
 use mathlib.Core.Path.{refl}
 use Rattle.report.specs.Numbers.{numbers}
 use Rattle.report.proofs.words.Statement.{statement}
@@ -6,7 +5,7 @@ use Rattle.report.proofs.words.Tie as tie
 
 returns : tie.Need-returns
 unfolding numbers
-returns c = search needs
+returns c = refl
 
 pub words-spec : {M : Type 1} → statement M
 words-spec = tie.close (tie.spec returns)
