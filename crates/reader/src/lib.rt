@@ -292,11 +292,11 @@ fn place_behind(next: Next, at: usize) -> usize
 }
 
 impl<'a> Reader<'a> {
-    // At the first byte.
-    pub fn new(file: &'a [u8]) -> Reader<'a>
-        ensures { λ r. ⌜ (r .file ≡ file .entry) × (r .at ≡ 0) ⌝ }
+    // Set at a place of a file.
+    pub fn new(file: &'a [u8], at: usize) -> Reader<'a>
+        ensures { λ r. ⌜ (r .file ≡ file .entry) × (r .at ≡ at) ⌝ }
     {
-        Reader { file, at: 0 }
+        Reader { file, at }
     }
 
     // What stands at the cursor, which moves behind it if it is a command.
@@ -315,6 +315,6 @@ impl<'a> Reader<'a> {
 pub fn read_at(file: &[u8], at: usize) -> Next
     ensures { λ found. ⌜ nextAnswer found ≡ nextAt (now (file .entry)) at ⌝ }
 {
-    let mut reader = Reader { file, at };
+    let mut reader = Reader::new(file, at);
     reader.next()
 }

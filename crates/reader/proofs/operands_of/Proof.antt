@@ -1,4 +1,4 @@
-use mathlib.Core.Path.{sym}
+use mathlib.Core.Path.{refl, sym}
 use Rattle.model.specs.Command.{opcodes, operandBytes}
 use Rattle.reader.proofs.Opcodes.{unknown}
 use Rattle.reader.proofs.operands_of.Statement.{statement}
@@ -6,31 +6,31 @@ use Rattle.reader.proofs.operands_of.Tie as tie
 
 returns : tie.Need-returns
 unfolding opcodes operandBytes
-returns c = rw (c .match .keys1)
+returns c = rw (c .match .keys1) refl
 
 returns-2 : tie.Need-returns-2
 unfolding opcodes operandBytes
-returns-2 c = rw (c .match .keys2)
+returns-2 c = rw (c .match .keys2) refl
 
 returns-3 : tie.Need-returns-3
 unfolding opcodes operandBytes
-returns-3 c = rw (c .match .keys3)
+returns-3 c = rw (c .match .keys3) refl
 
 returns-4 : tie.Need-returns-4
 unfolding opcodes operandBytes
-returns-4 c = rw (c .match .keys4)
+returns-4 c = rw (c .match .keys4) refl
 
 returns-5 : tie.Need-returns-5
 unfolding opcodes operandBytes
-returns-5 c = rw (c .match .keys5)
+returns-5 c = rw (c .match .keys5) refl
 
 returns-6 : tie.Need-returns-6
 unfolding opcodes operandBytes
-returns-6 c = rw (c .match .keys6)
+returns-6 c = rw (c .match .keys6) refl
 
 returns-7 : tie.Need-returns-7
 unfolding opcodes operandBytes
-returns-7 c = rw (c .match .keys7)
+returns-7 c = rw (c .match .keys7) refl
 
 returns-8 : tie.Need-returns-8
 returns-8 c =

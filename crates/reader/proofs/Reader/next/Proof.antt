@@ -50,6 +50,7 @@ use denote.Triple.Walked.{says, Stays, stay-ref, walkOf, goes-ref, Walks, ends-a
 use Rattle.reader.specs.Answer.{nextAnswer, placeBehind, movedTo, nextAt}
 use Rattle.reader.specs.declared.Reader.{Reader}
 use Rattle.reader.specs.declared.Next.{Next}
+use Rattle.reader.proofs.Walked.{gives}
 use Rattle.reader.proofs.Reader as T
 use Rattle.reader.proofs.Reader.Laws as T′
 use Rattle.reader.proofs.Next as S
@@ -116,8 +117,11 @@ module _ {M : Type 1} (𝓤 : URA M) (H : Heap 𝓤) (A : Atoms 𝓤) (W : Given
 
   -- what each call is passed, and what it says
 
+  abbrev file : Val
+  file = sliceVal (h .file .ptr) (length (h .file .now))
+
   abbrev at-vals : Vals next-at.signature (κ′, tt)
-  at-vals = (sliceVal (h .file .ptr) (length (h .file .now)) ∷ [], (vint w64 (h .at) ∷ [], tt))
+  at-vals = (file ∷ [], (vint w64 (h .at) ∷ [], tt))
 
   abbrev to-at : NextAt 𝓤 H A mem run .Ghost
   to-at = (((κ′, tt), (q′, tt), tt, fields, at-vals), tt)
@@ -191,7 +195,7 @@ module _ {M : Type 1} (𝓤 : URA M) (H : Heap 𝓤) (A : Atoms 𝓤) (W : Given
         assigns ! (of-opd ! (load ! (from ! (hop ! (look ! 15 refl) (fld ! refl (stop !)))) (look-in ! 0 (sub ! 0 refl (whole !))))) (from ! (stop !)) (init ! 9 refl (tt, typed was .1 .0)) $
         -- `next_at`
         move ! (5 ∷ 1 ∷ []) $ use2 W (raw (NextAt 𝓤 H A mem run .pre to-at) ⊛ ‵ Own) (apart (typed was .1 .1 .0 .fits)) $ split ! $
-        calls-at ! fm (NextAt 𝓤 H A mem run) known-at to-at (and-then ! (load ! (from ! (stop !)) (look ! 9 refl)) (and-then ! (load ! (from ! (stop !)) (look ! 13 refl)) (no-more !))) (λ u.
+        calls-at ! fm (NextAt 𝓤 H A mem run) known-at to-at (and-then ! (gives ! 9 file refl) (and-then ! (gives ! 13 (vint w64 (h .at)) refl) (no-more !))) (λ u.
         use1 W (later (some (λ (r : Next). ((‵ (flft κ′ q′) ⊛ ‵ ftrue) ⊛ ‵ (S.the-row .own r (u ∷ []))) ⊛ raw (ensured 𝓤 H A next-at.ended (next-at.clauses 𝓤 H A mem run) (κ′, tt) fields tt r)))) (id⊢ 𝓤 _) $ await ! tt $ pick ! (λ r.
         split ! $ move ! (1 ∷ []) $ use1 W (raw (fact 𝓤 (Stands r))) (stands r) $ heard ! (Stands r) (λ e. split ! $ move ! (1 ∷ []) $
         facts ! S.the-row (Is S.the-row) (shows 𝓤 H A S.the-row) r (u ∷ []) (λ is.
@@ -199,14 +203,14 @@ module _ {M : Type 1} (𝓤 : URA M) (H : Heap 𝓤) (A : Atoms 𝓤) (W : Given
         -- `place_behind`, before [the token; what the reader owns; its cell; the open borrow; obs; auth; nothing; _5; …]
         nothing ! $ owned ! usize (Is usize) (uint-makes 𝓤 H A W w64) (h .at) _ (refl, typed was .1 .1 .0 .fits) $ fjoin ! $
         owned ! S.the-row (Is S.the-row) (EL.makes S.the-type S′.the-plain 𝓤 H A) r (u ∷ []) is $ fjoin ! $ nothing ! $ use2 W (raw (Behind 𝓤 H A mem run .pre (to-behind r u))) (asked-behind r u) $
-        calls-at ! fm (Behind 𝓤 H A mem run) known-behind (to-behind r u) (and-then ! (load ! (from ! (stop !)) (look ! 12 refl)) (and-then ! (load ! (from ! (stop !)) (look ! 14 refl)) (no-more !))) (λ w.
+        calls-at ! fm (Behind 𝓤 H A mem run) known-behind (to-behind r u) (and-then ! (gives ! 12 u refl) (and-then ! (gives ! 14 (vint w64 (h .at)) refl) (no-more !))) (λ w.
         use1 W (later (some (λ (n : ℕ). (‵ ftrue ⊛ ‵ (usize .own n (w ∷ []))) ⊛ raw (ensured 𝓤 H A behind.ended (behind.clauses 𝓤 H A mem run) tt (r, (h .at, tt)) tt n)))) (id⊢ 𝓤 _) $ await ! tt $ pick ! (λ n.
         split ! $ move ! (1 ∷ []) $ use1 W (raw (fact 𝓤 (Place r n))) (place r n) $ heard ! (Place r n) (λ p. split ! $ drop ! $
         facts ! usize (Is usize) (shows 𝓤 H A usize) n (w ∷ []) (λ fits.
         land ! (from ! (stop !)) (init ! 7 refl (uint-lawful 𝓤 H A W w64 .typed n _ fits .0)) $ rewrite ! 7 (λ (v : Val). ‵ (fat fullShare (tyInt w64) l₅ 0 v)) (ap only (fits .0)) refl $
         -- the new place, the result, and the borrow is closed
-        assigns ! (of-opd ! (load ! (from ! (stop !)) (look ! 7 refl))) (from ! (hop ! (look ! 15 refl) (fld ! refl (stop !)))) (store-in ! 2 (sub ! 1 refl (whole !)) (tt, record { fits = fits .1 })) $
-        assigns ! (of-opd ! (load ! (from ! (stop !)) (look ! 11 refl))) (from ! (stop !)) (init ! 17 refl (EL.lawful S.the-type S′.the-laws 𝓤 H A W tt .typed r _ is .0)) $
+        assigns ! (of-opd ! (gives ! 7 (vint w64 n) refl)) (from ! (hop ! (look ! 15 refl) (fld ! refl (stop !)))) (store-in ! 2 (sub ! 1 refl (whole !)) (tt, record { fits = fits .1 })) $
+        assigns ! (of-opd ! (gives ! 11 u refl)) (from ! (stop !)) (init ! 17 refl (EL.lawful S.the-type S′.the-laws 𝓤 H A W tt .typed r _ is .0)) $
         move ! (1 ∷ []) $ use1 W (‵ (R .own (movedTo h n) (T′.lowered (movedTo h n) ∷ []))) (moved n (fits .1)) $
         move ! (2 ∷ []) $ use1 W (‵ (cellAt fullShare (R .mir) (T′.lowered (movedTo h n) ∷ []) b o)) (W .laws .at-raw fullShare (T′.mir erased) b o (T′.lowered (movedTo h n))) $
         move ! (0 ∷ 1 ∷ 3 ∷ 4 ∷ 5 ∷ []) $ closes ! tt R (movedTo h n) (T′.lowered (movedTo h n) ∷ []) b o $
