@@ -1,7 +1,7 @@
 -- An alloc whose roots are the registers: 3 and 4 get a yes, and the answer, the image and the roots are those of the step.
 use mathlib.Core.Path.{_≡_, refl, sym, ap, _∙_}
 use mathlib.Core.Bool.{Bool, true, false, _&&_}
-use mathlib.Core.List.{List, [], _∷_, _++_}
+use mathlib.Core.List.{List, [], _∷_}
 use mathlib.Core.Option.{some}
 use Prim.Native.Nat.{ℕ, _-_, _*_, _/_, _≤_, _<_}
 use native.Mathlib.Omega.{arith}
@@ -11,7 +11,7 @@ use mir.Syntax.{w64}
 use mir.Val.{SFits}
 use borrow.Author.Tests.{le-leb}
 use Rattle.model.specs.Res.{Res, ok, refuse, _>>=_, each}
-use Rattle.model.specs.Records.{Ptr, Cell, ref, blank, valid, allValid, cellWords, wholeCells, whole}
+use Rattle.model.specs.Records.{Ptr, Cell, ref, valid, allValid, cellWords, wholeCells, whole}
 use Rattle.model.specs.Heap.{Nursery, Elder, Sizes, Heap}
 use Rattle.model.specs.Image.{encode, decode}
 use Rattle.model.specs.Barrier.{masks}
@@ -20,9 +20,9 @@ use Rattle.model.specs.Elder.{placeNew, moveOne, movesOf}
 use Rattle.model.specs.Collector.{Allocation as ModelAllocation, fourCounts, swapAll, allocAgain, collectAndAlloc, alloc as allocIn}
 use Rattle.model.specs.Calls.{Outcome, cellsIn, rootsGood, scratchLength, allocOn, allocated}
 use Rattle.model.specs.Command.{alloc}
-use Rattle.model.specs.Run.{step, stepped}
-use Rattle.model.specs.Listing.{spaced, signed, allocWord}
+use Rattle.model.specs.Run.{holding as holdingState, allocLine, step, stepped}
 use Rattle.theorems.specs.Holds.{Holds, such}
+use Rattle.theorems.specs.Program.{programScratch}
 use Rattle.theorems.proofs.Res.{bind, bind′, asked, holds-at}
 use Rattle.theorems.proofs.Contents.{all-valid, valid-all}
 use Rattle.theorems.proofs.Cells.{whole-words, words-in}
@@ -36,11 +36,11 @@ use Rattle.collector.specs.declared.Allocation.{Allocation}
 use Rattle.collector.specs.declared.Allocated.{Allocated}
 use Rattle.collector.specs.declared.Allocated.the-variants.{At, Refused}
 use Rattle.registers.specs.declared.Registers.{Registers}
-use Rattle.registers.specs.Cells.{cellsOfRegisters, GoodValue, Good}
-use Rattle.registers.proofs.Values.{values-valid, good-whole}
-use Rattle.lines.specs.declared.Answer.{Answer}
-use Rattle.lines.specs.declared.Answer.the-variants as answer
-use Rattle.lines.specs.Answers.{allocText, answerText}
+use Rattle.access.specs.Access.{pointerOf}
+use Rattle.registers.specs.Cells.{cellsOfRegisters, holding, GoodValue, Good}
+use Rattle.registers.proofs.Values.{set-cells, set-good, values-valid, good-whole}
+use Rattle.command.specs.declared.answers.Answer.{Answer}
+use Rattle.command.specs.declared.answers.Answer.the-variants as answer
 use Rattle.command.specs.State.{stateOf, Held}
 use Rattle.command.specs.Steps.{Acts}
 use Rattle.command.proofs.Heaps.{no-heap, the-heap, refuses, limited-scratch, heap-encoded, held-after}
@@ -63,32 +63,29 @@ low-heap h roots a = asked 5 (ltb 0 a && ltb a 0x8000_0000_0000_0000) _ (λ _. g
         bind′ (each swapAll (movesOf (v .steps)) (g .1, g .2, roots)) _ (λ r _.
         such low))))
 
--- an answer's words as the line's text, and as the pointer's cell
+-- an answer's words as a pointer and four counts
 
-abbrev textIn : Res (List ℕ) → List ℕ
-textIn (ok l) = allocWord ++ spaced (getD l 0 0 ∷ getD l 1 0 ∷ []) ++ 0x20 ∷ signed (getD l 2 0) ++ spaced (drop 3 l)
-textIn (refuse q) = []
+abbrev pointerOfWords : Res (List ℕ) → Ptr
+pointerOfWords (ok l) = record { heap = getD l 0 0; base = getD l 1 0; off = getD l 2 0 }
+pointerOfWords (refuse q) = whole 0 0
 
-abbrev cellIn : Res (List ℕ) → Cell
-cellIn (ok l) = ref (record { heap = getD l 0 0; base = getD l 1 0; off = getD l 2 0 })
-cellIn (refuse q) = blank
-
-abbrev lineOf : ModelAllocation → List ℕ
-lineOf x = allocWord ++ spaced (x .ptr .heap ∷ x .ptr .base ∷ []) ++ 0x20 ∷ signed (x .ptr .off) ++ spaced (fourCounts x)
+abbrev countsOf : Res (List ℕ) → List ℕ
+countsOf (ok l) = drop 3 l
+countsOf (refuse q) = []
 
 -- the answer, the image and the roots are the model's
 record Same (x : ModelAllocation) (a : Allocation) (v roots : List ℕ) : Type 0 where
-  text : allocText a ≡ lineOf x
-  cell : valueCell (Pointer (a .pointer)) ≡ ref (x .ptr)
+  pointer : pointerOf (a .pointer) ≡ x .ptr
+  counts : (a .nursery .collections ∷ a .nursery .visits ∷ a .elder .collections ∷ a .elder .visits ∷ []) ≡ fourCounts x
   image : v ≡ encode (x .heap)
   roots-are : roots ≡ cellWords (x .roots)
 
 module _ (w roots v roots′ : List ℕ) where
   same-answer : {a : Allocation} (m : Res ModelAllocation) → allocated w roots m ≡ allocOutcome (At a) v roots′ → (x : ModelAllocation) × (m ≡ ok x) × Same x a v roots′
-  unfolding allocated allocOutcome allocText fourCounts valueCell
+  unfolding allocated allocOutcome fourCounts
   same-answer (ok x) e =
       let words = ap (λ (o : Outcome). o .answer) e in
-      (x, refl, record { text = sym (ap textIn words); cell = sym (ap cellIn words); image = sym (ap (λ (o : Outcome). o .image) e); roots-are = sym (ap (λ (o : Outcome). o .roots) e) })
+      (x, refl, record { pointer = sym (ap pointerOfWords words); counts = sym (ap countsOf words); image = sym (ap (λ (o : Outcome). o .image) e); roots-are = sym (ap (λ (o : Outcome). o .roots) e) })
   same-answer (refuse q) e = absurd (refused-ok (ap (λ (o : Outcome). o .answer) e))
 
   same-refusal : {q : ℕ} (m : Res ModelAllocation) → allocated w roots m ≡ allocOutcome (Refused q) v roots′ → (m ≡ refuse q) × (v ≡ w)
@@ -110,7 +107,7 @@ pub record Lent (w : List ℕ) (r : Registers) (roots : List ℕ) (n : ℕ) : Ty
   pub good : Good r
   pub words : roots ≡ cellWords (cellsOfRegisters r)
   pub long : length roots ≡ 48
-  pub room : 5754 ≤ n
+  pub room : programScratch ≤ n
 
 module _ {w : List ℕ} {r : Registers} {roots : List ℕ} {n : ℕ} (l : Lent w r roots n) (amount : ℕ) where
   valid-cells : allValid (cellsOfRegisters r) ≡ true
@@ -124,18 +121,19 @@ module _ {w : List ℕ} {r : Registers} {roots : List ℕ} {n : ℕ} (l : Lent w
       let fits : scratchLength (decode w .size) 16 ≤ n = omega (arith, l .room, limited-scratch (decode w .size) (l .held .bounded (l .there))) in
       rw (cells, le-leb (length roots) (3 * 4096) (omega (arith, l .long)), sixteen, le-leb (scratchLength (decode w .size) 16) n fits, l .words, words-in (cellsOfRegisters r) valid-cells)
 
-  step-is : (k : ℕ) → step (alloc k amount) (stateOf w r) ≡ (allocIn (decode w) (cellsOfRegisters r) amount >>= λ x. ok (lineOf x, record { heap = some (x .heap); registers = put (x .roots) k (ref (x .ptr)) }))
-  unfolding step stateOf
+  step-is : (k : ℕ) → step (alloc k amount) (stateOf w r) ≡ (allocIn (decode w) (cellsOfRegisters r) amount >>= λ x. ok (allocLine (x .ptr) (fourCounts x), record { heap = some (x .heap); registers = put (x .roots) k (ref (x .ptr)) }))
+  unfolding step holdingState stateOf
   step-is k = rw (the-heap w r (l .there))
 
   same-acts : {x : ModelAllocation} {a : Allocation} {v roots′ : List ℕ} → allocIn (decode w) (cellsOfRegisters r) amount ≡ ok x → Told ⊥ (decode w) (cellsOfRegisters r) x → Same x a v roots′
-      → (moved s : Registers) (k : ℕ) → cellsOfRegisters moved ≡ cellsIn roots′ → cellsOfRegisters s ≡ put (cellsOfRegisters moved) k (valueCell (Pointer (a .pointer))) → Good s → Acts (alloc k amount) w r (answer.Alloc a) v s
-  unfolding stepped answerText stateOf
+      → (moved s : Registers) (k : ℕ) → cellsOfRegisters moved ≡ cellsIn roots′ → cellsOfRegisters s ≡ put (cellsOfRegisters moved) k (ref (pointerOf (a .pointer))) → Good s → Acts (alloc k amount) w r (answer.Alloc a) v s
+  unfolding stepped stateOf
   same-acts {x} gave told same moved s k from now good =
       let fit = good-heap-fit (told .good) in
       let back = words-in (x .roots) (valid-all (x .roots) (told .roots-valid)) in
       record {
-        stepping = rw (step-is k, gave, same .text, same .image, heap-encoded fit, now, from, same .roots-are, back, same .cell);
+        stepping = rw (step-is k, gave, same .counts, same .image, heap-encoded fit, now, from, same .roots-are, back, same .pointer);
+        whole = tt;
         held = rw (same .image) (held-after fit (l .held) (l .there) (told .same-size));
         good = good;
       }
@@ -156,9 +154,10 @@ module _ {w : List ℕ} {r : Registers} {roots : List ℕ} {n : ℕ} (l : Lent w
       pub roots-whole : wholeCells roots′ ≡ true
       roots-whole = rw (answered .2 .roots-are) (whole-words (answered .0 .roots) (valid-all (answered .0 .roots) (told .roots-valid)))
 
-      pub pointer-good : SFits w64 (a .pointer .offset) → GoodValue (Pointer (a .pointer))
-      unfolding valid
-      pointer-good s = record { cell = rw (answered .2 .cell) (holds-at (low-heap (decode w) (cellsOfRegisters r) amount) (answered .1)); whole = tt; ranged = s }
+      pointer-good : SFits w64 (a .pointer .offset) → GoodValue (Pointer (a .pointer))
+      unfolding valid valueCell
+      pointer-good s = record { cell = rw (ap (λ (p : Ptr). p .heap) (answered .2 .pointer)) (holds-at (low-heap (decode w) (cellsOfRegisters r) amount) (answered .1)); whole = tt; ranged = s }
 
-      pub alloc-acts : (moved s : Registers) (k : ℕ) → cellsOfRegisters moved ≡ cellsIn roots′ → cellsOfRegisters s ≡ put (cellsOfRegisters moved) k (valueCell (Pointer (a .pointer))) → Good s → Acts (alloc k amount) w r (answer.Alloc a) v s
-      alloc-acts moved s k = same-acts (answered .1) told (answered .2) moved s k
+      pub alloc-acts : (moved s : Registers) (k : ℕ) → cellsOfRegisters moved ≡ cellsIn roots′ → Good moved → SFits w64 (a .pointer .offset) → s .cells ≡ put (moved .cells) k (holding (Pointer (a .pointer))) → Acts (alloc k amount) w r (answer.Alloc a) v s
+      unfolding valueCell
+      alloc-acts moved s k from good fits now = same-acts (answered .1) told (answered .2) moved s k from (set-cells moved s k (Pointer (a .pointer)) now) (set-good moved s k (Pointer (a .pointer)) now good (pointer-good fits))

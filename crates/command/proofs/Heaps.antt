@@ -14,13 +14,14 @@ use Rattle.model.specs.Calls.{scratchLength}
 use Rattle.model.specs.Command.{Command}
 use Rattle.model.specs.Run.{theHeap, noHeap, programBounds, step, stepped}
 use Rattle.theorems.specs.Fit.{Fit}
+use Rattle.theorems.specs.Program.{programWords, programScratch}
 use Rattle.theorems.proofs.Image.{decode-encode, encode-sized, encode-formed, image-of}
 use Rattle.theorems.proofs.Lists.{and-parts}
 use Rattle.registers.specs.declared.Registers.{Registers}
 use Rattle.registers.specs.Cells.{Good}
-use Rattle.lines.specs.declared.Answer.{Answer}
-use Rattle.lines.specs.declared.Answer.the-variants.{Refused}
-use Rattle.lines.specs.Answers.{answerText}
+use Rattle.command.specs.declared.answers.Answer.{Answer}
+use Rattle.command.specs.declared.answers.Answer.the-variants.{Refused}
+use Rattle.command.specs.Answers.{answerLine, GoodAnswer}
 use Rattle.command.specs.State.{heapIn, stateOf, Held}
 use Rattle.command.specs.Steps.{Acts}
 
@@ -43,12 +44,12 @@ heap-there (x ∷ w) r h = refl
 
 -- a refusal leaves the state
 pub refuses : {c : Command} {w : List ℕ} {r r′ : Registers} {a : Answer} {q : ℕ} → Held w → Good r → step c (stateOf w r) ≡ refuse q → (a ≡ Refused q) × (r′ ≡ r) → Acts c w r a w r′
-unfolding stepped answerText
-refuses h g e (is, same) = rw (is, same) (record { stepping = rw e; held = h; good = g })
-
-pub answers : {c : Command} {w : List ℕ} {r : Registers} {a : Answer} {v : List ℕ} {r′ : Registers} → step c (stateOf w r) ≡ ok (answerText a, stateOf v r′) → Held v → Good r′ → Acts c w r a v r′
 unfolding stepped
-answers e h g = record { stepping = rw e; held = h; good = g }
+refuses h g e (is, same) = rw (is, same) (record { stepping = rw e; whole = tt; held = h; good = g })
+
+pub answers : {c : Command} {w : List ℕ} {r : Registers} {a : Answer} {v : List ℕ} {r′ : Registers} → step c (stateOf w r) ≡ ok (answerLine a, stateOf v r′) → GoodAnswer a → Held v → Good r′ → Acts c w r a v r′
+unfolding stepped
+answers e u h g = record { stepping = rw e; whole = u; held = h; good = g }
 
 -- the program's limits
 
@@ -74,13 +75,13 @@ module _ (z : Sizes) (e : programBounds z ≡ true) where
       rw (le-leb (z .n) 2048 (omega arith), le-leb (z .t) 8192 (omega arith), le-leb (z .s) 8192 (omega arith), le-leb (z .c) 65536 (omega arith))
 
   -- the buffer's room
-  pub limited-image : imageLength z ≤ 2698
-  unfolding imageLength
+  pub limited-image : imageLength z ≤ programWords
+  unfolding programWords imageLength
   limited-image = let l = limited in omega arith
 
   -- scratch's, with the sixteen registers for roots
-  pub limited-scratch : scratchLength z 16 ≤ 5754
-  unfolding scratchLength imageLength
+  pub limited-scratch : scratchLength z 16 ≤ programScratch
+  unfolding programScratch scratchLength imageLength
   limited-scratch = let l = limited in omega arith
 
 -- words that are held

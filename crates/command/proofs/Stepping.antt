@@ -1,7 +1,7 @@
 -- A command's step, by what its code found.
 use mathlib.Core.Path.{_≡_, refl, sym, ap, _∙_}
 use mathlib.Core.Bool.{true, false}
-use mathlib.Core.List.{List, [], _∷_, _++_}
+use mathlib.Core.List.{List, [], _∷_}
 use mathlib.Core.Option.{some}
 use Prim.Native.Nat.{ℕ, _<_}
 use lib.Ieee.{Float, binary64, ofBits}
@@ -16,8 +16,7 @@ use Rattle.model.specs.Collector.{read, write}
 use Rattle.model.specs.Calls.{writeOn, left}
 use Rattle.model.specs.Figure.{Figure as ModelFigure, figureOf, figure as figureIn}
 use Rattle.model.specs.Command.{set, load, store, figure}
-use Rattle.model.specs.Run.{State as ModelState, register, theHeap, pointerIn, added, floatIn, step}
-use Rattle.model.specs.Listing.{cellText, figureText, loadWord, storeWord, figureWord}
+use Rattle.model.specs.Run.{State as ModelState, holding as holdingState, register, Line, loadLine, storeLine, figureLine, theHeap, pointerIn, added, floatIn, step}
 use Rattle.theorems.proofs.Res.{holds-at}
 use Rattle.value.proofs.Value.{the-type}
 use Rattle.value.specs.declared.Pointer.{Pointer}
@@ -34,13 +33,12 @@ use Rattle.access.specs.declared.Loaded.the-variants as loaded
 use Rattle.access.specs.declared.Stored.{Stored}
 use Rattle.access.specs.declared.Stored.the-variants as stored
 use Rattle.registers.specs.declared.Registers.{Registers}
-use Rattle.registers.specs.Cells.{cellsOfRegisters, GoodValue, Good}
-use Rattle.registers.proofs.Values.{spelled-good}
-use Rattle.lines.specs.declared.Answer.{Answer}
-use Rattle.lines.specs.declared.Answer.the-variants as answer
-use Rattle.lines.specs.Answers.{answerText, loadText, figureLine}
+use Rattle.registers.specs.Cells.{cellsOfRegisters, holding, unset, GoodValue, Good}
+use Rattle.registers.proofs.Values.{spelled-good, got-cell, got-good, set-cells, set-good}
+use Rattle.command.specs.declared.answers.Answer.{Answer}
+use Rattle.command.specs.declared.answers.Answer.the-variants as answer
 use Rattle.command.specs.State.{heapIn, stateOf, Held}
-use Rattle.command.specs.Steps.{targetAnswer, targetIn, Acts}
+use Rattle.command.specs.Steps.{targetAnswer, targetIn, Loads, Acts}
 use Rattle.command.specs.declared.Target.{Target}
 use Rattle.command.specs.declared.Target.the-variants as target
 use Rattle.command.proofs.Heaps.{no-heap, the-heap, refuses, answers}
@@ -53,9 +51,9 @@ module _ {w : List ℕ} {r : Registers} {k a b o : ℕ} {t : Registers} (h : Hel
   unfolding step
   set-refused e = refuses h g (rw e)
 
-  pub set-done : (v : Value) → validWords a b o ≡ true → Spelled a b o v → cellsOfRegisters t ≡ put (cellsOfRegisters r) k (valueCell v) → (Good r → GoodValue v → Good t) → Acts (set k a b o) w r answer.Set w t
-  unfolding step stateOf answerText
-  set-done v e p is keeps = answers (rw (e, is, p .cell)) h (keeps g (spelled-good a b o v e p))
+  pub set-done : (v : Value) → validWords a b o ≡ true → Spelled a b o v → t .cells ≡ put (r .cells) k (holding v) → Acts (set k a b o) w r answer.Set w t
+  unfolding step holdingState stateOf
+  set-done v e p is = answers (rw (e, set-cells r t k v is, p .cell)) tt h (set-good r t k v is g (spelled-good a b o v e p))
 
 -- figure
 
@@ -73,29 +71,31 @@ unfolding floatIn valueCell figureIn
 a-float v {n} {b} e f = let number : n ≡ ofBits binary64 b = rw e at f in rw (e, number)
 
 -- what is answered of a figure
-abbrev shown : ModelState → ModelFigure → Res (List ℕ × ModelState)
-shown s f = ok (figureWord ++ 0x20 ∷ figureText f, s)
+abbrev shown : ModelState → ModelFigure → Res (Line × ModelState)
+shown s f = ok (figureLine f, s)
 
-module _ {w : List ℕ} {r : Registers} (k : ℕ) (h : Held w) (g : Good r) (v : Value) (at : valueCell v ≡ getD (cellsOfRegisters r) k blank) where
+module _ {w : List ℕ} {r : Registers} (k : ℕ) (h : Held w) (g : Good r) (v : Value) (at : v ≡ getD (r .cells) k unset .value) where
   pub figure-other : {a : Answer} {t : Registers} → OneOf (0 ∷ 1 ∷ 2 ∷ 4 ∷ 5 ∷ []) (tagOf the-type v) → (a ≡ answer.Refused 15) × (t ≡ r) → Acts (figure k) w r a w t
   unfolding step register stateOf
-  figure-other o = refuses h g (rw (← at, no-float v o))
+  figure-other o = refuses h g (rw (← got-cell r k at, no-float v o))
 
   figure-is : step (figure k) (stateOf w r) ≡ (floatIn (valueCell v) >>= figureIn >>= shown (stateOf w r))
   unfolding step register stateOf
-  figure-is = rw (← at) (go (floatIn (valueCell v)))
+  figure-is = rw (← got-cell r k at) (go (floatIn (valueCell v)))
     where
       go : (m : Res ℕ) → (m >>= λ b. figureIn b >>= shown (stateOf w r)) ≡ (m >>= figureIn >>= shown (stateOf w r))
       go (ok b) = refl
       go (refuse q) = refl
 
-  module _ {n : Float} {b : ℕ} (is : v ≡ FloatV n b) (whole : Whole v) (f : Figured) (e : figuredAnswer f ≡ figureOf n) where
+  module _ {n : Float} {b : ℕ} (is : v ≡ FloatV n b) (f : Figured) (e : figuredAnswer f ≡ figureOf n) where
+    figure-answer : step (figure k) (stateOf w r) ≡ (figuredAnswer f >>= shown (stateOf w r))
+    figure-answer = rw (figure-is, a-float v is (got-good r k at g .whole), ← e)
+
     pub figure-refused : {q : ℕ} {a : Answer} {t : Registers} → f ≡ figured.Refused q → (a ≡ answer.Refused q) × (t ≡ r) → Acts (figure k) w r a w t
-    figure-refused i = refuses h g (rw (figure-is, a-float v is whole, ← e, i))
+    figure-refused i = refuses h g (rw (figure-answer, i))
 
     pub figure-done : {x : Figure} → f ≡ figured.Is x → Acts (figure k) w r (answer.Figure x) w r
-    unfolding answerText figureLine
-    figure-done i = answers (rw (figure-is, a-float v is whole, ← e, i)) h g
+    figure-done i = answers (rw (figure-answer, i)) tt h g
 
 -- where an access goes, in the heap
 
@@ -115,18 +115,18 @@ unfolding loadedCell
 loaded-valid {w} h l p x u m f = holds-at (read-fit (decode w) p (h .formed l .fit)) (sym m ∙ ap loadedCell f)
 
 -- what is answered of a cell that was read
-abbrev putIn : List ℕ → Registers → ℕ → Cell → Res (List ℕ × ModelState)
-putIn w r k c = ok (loadWord ++ cellText c, record { heap = heapIn w; registers = put (cellsOfRegisters r) k c })
+abbrev putIn : List ℕ → Registers → ℕ → Cell → Res (Line × ModelState)
+putIn w r k c = ok (loadLine c, record { heap = heapIn w; registers = put (cellsOfRegisters r) k c })
 
 module _ {w : List ℕ} {r : Registers} (k p d : ℕ) (h : Held w) (g : Good r) where
   pub load-heapless : {a : Answer} {s : Registers} → length w ≡ 0 → (a ≡ answer.Refused 14) × (s ≡ r) → Acts (load k p d) w r a w s
   unfolding step
   load-heapless e = refuses h g (rw (no-heap w r e))
 
-  module _ (l : 0 < length w) (v : Value) (at : valueCell v ≡ getD (cellsOfRegisters r) p blank) (t : Target) (e : targetAnswer t ≡ targetIn (valueCell v) d) where
+  module _ (l : 0 < length w) (v : Value) (at : v ≡ getD (r .cells) p unset .value) (t : Target) (e : targetAnswer t ≡ targetIn (valueCell v) d) where
     load-is : step (load k p d) (stateOf w r) ≡ (targetAnswer t >>= λ y. read (decode w) y >>= putIn w r k)
-    unfolding step register stateOf
-    load-is = aimed w r l (getD (cellsOfRegisters r) p blank) d (λ h y. read h y >>= putIn w r k) ∙ rw (← at, ← e)
+    unfolding step holdingState register stateOf
+    load-is = aimed w r l (getD (cellsOfRegisters r) p blank) d (λ h y. read h y >>= putIn w r k) ∙ rw (← got-cell r p at, ← e)
 
     pub load-nowhere : {q : ℕ} {a : Answer} {s : Registers} → t ≡ target.Refused q → (a ≡ answer.Refused q) × (s ≡ r) → Acts (load k p d) w r a w s
     load-nowhere f = refuses h g (rw (load-is, f))
@@ -139,32 +139,35 @@ module _ {w : List ℕ} {r : Registers} (k p d : ℕ) (h : Held w) (g : Good r) 
       unfolding loadedCell
       load-refused f = refuses h g (rw (load-reads, f))
 
-      pub load-done : {u : Value} {a : Answer} {s : Registers} → x ≡ loaded.Value u → (a ≡ answer.Load u) × (cellsOfRegisters s ≡ put (cellsOfRegisters r) k (valueCell u)) × Good s → Acts (load k p d) w r a w s
-      unfolding loadedCell stateOf answerText loadText
-      load-done f n = rw (n .0) (answers (rw (load-reads, f, n .1)) h (n .2))
+      pub load-done : {u : Value} {a : Answer} {s : Registers} → x ≡ loaded.Value u → Loads r k (valueCell u) a s → Acts (load k p d) w r a w s
+      unfolding loadedCell stateOf
+      load-done f n = answers (rw (load-reads, f, n .line, n .cells)) (n .whole) h (n .good)
 
 -- store
 
 -- what is answered of the heap after a write
-abbrev kept : Registers → Heap → Res (List ℕ × ModelState)
-kept r h = ok (storeWord, record { heap = some h; registers = cellsOfRegisters r })
+abbrev kept : Registers → Heap → Res (Line × ModelState)
+kept r h = ok (storeLine, record { heap = some h; registers = cellsOfRegisters r })
 
 module _ {w : List ℕ} {r : Registers} (k p d : ℕ) (h : Held w) (g : Good r) where
   pub store-heapless : {a : Answer} {s : Registers} → length w ≡ 0 → (a ≡ answer.Refused 14) × (s ≡ r) → Acts (store k p d) w r a w s
   unfolding step
   store-heapless e = refuses h g (rw (no-heap w r e))
 
-  module _ (l : 0 < length w) (v : Value) (at : valueCell v ≡ getD (cellsOfRegisters r) p blank) (t : Target) (e : targetAnswer t ≡ targetIn (valueCell v) d)
-      (u : Value) (here : valueCell u ≡ getD (cellsOfRegisters r) k blank) where
+  module _ (l : 0 < length w) (v : Value) (at : v ≡ getD (r .cells) p unset .value) (t : Target) (e : targetAnswer t ≡ targetIn (valueCell v) d)
+      (u : Value) (here : u ≡ getD (r .cells) k unset .value) where
     store-is : step (store k p d) (stateOf w r) ≡ (targetAnswer t >>= λ y. write (decode w) y (valueCell u) >>= kept r)
-    unfolding step register stateOf
-    store-is = aimed w r l (getD (cellsOfRegisters r) p blank) d (λ h y. write h y (getD (cellsOfRegisters r) k blank) >>= kept r) ∙ rw (← at, ← e, ← here)
+    unfolding step holdingState register stateOf
+    store-is = aimed w r l (getD (cellsOfRegisters r) p blank) d (λ h y. write h y (getD (cellsOfRegisters r) k blank) >>= kept r) ∙ rw (← got-cell r p at, ← e, ← got-cell r k here)
 
     pub store-nowhere : {q : ℕ} {a : Answer} {s : Registers} → t ≡ target.Refused q → (a ≡ answer.Refused q) × (s ≡ r) → Acts (store k p d) w r a w s
     store-nowhere f = refuses h g (rw (store-is, f))
 
-    module _ (good : GoodValue u) {y : Pointer} (aim : t ≡ target.Is y) {a b o : ℕ} (words : (a ∷ b ∷ o ∷ []) ≡ cellWords (valueCell u ∷ []))
+    module _ {y : Pointer} (aim : t ≡ target.Is y) {a b o : ℕ} (words : (a ∷ b ∷ o ∷ []) ≡ cellWords (valueCell u ∷ []))
         (x : Stored) (z : List ℕ) (m : left w (writeOn (decode w) (pointerOf y) (a ∷ b ∷ o ∷ [])) ≡ storedOutcome x z) where
+      good : GoodValue u
+      good = got-good r k here g
+
       as-cell : writeOn (decode w) (pointerOf y) (a ∷ b ∷ o ∷ []) ≡ write (decode w) (pointerOf y) (valueCell u)
       as-cell = written-as (decode w) (pointerOf y) (valueCell u) words (good .cell)
 
@@ -172,11 +175,11 @@ module _ {w : List ℕ} {r : Registers} (k p d : ℕ) (h : Held w) (g : Good r) 
       store-writes = rw (store-is, aim, as-cell)
 
       pub store-done : x ≡ stored.Done → Acts (store k p d) w r answer.Store z r
-      unfolding stateOf answerText
+      unfolding stateOf
       store-done f =
           let (n, answered, is) = done-left (writeOn (decode w) (pointerOf y) (a ∷ b ∷ o ∷ [])) w z x m f in
           let wrote = sym as-cell ∙ answered in
-          answers (rw (store-writes, answered, heap-written h l (pointerOf y) (valueCell u) (good .cell) wrote is)) (held-written h l (pointerOf y) (valueCell u) (good .cell) wrote is) g
+          answers (rw (store-writes, answered, heap-written h l (pointerOf y) (valueCell u) (good .cell) wrote is)) tt (held-written h l (pointerOf y) (valueCell u) (good .cell) wrote is) g
 
       pub store-refused : {q : ℕ} {c : Answer} {s : Registers} → x ≡ stored.Refused q → (c ≡ answer.Refused q) × (s ≡ r) → Acts (store k p d) w r c z s
       store-refused {q} f n =

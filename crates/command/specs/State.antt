@@ -29,9 +29,12 @@ pub record Held (w : List ℕ) : Type 0 where
 abbrev pub stateIn : List ℕ → State → ModelState
 stateIn buffer s = stateOf (take (s .words) buffer) (s .registers)
 
+abbrev pub holding : ℕ → Registers → State
+holding k r = record { words = k; registers = r }
+
 -- before the first `new`
 abbrev pub heapless : Registers → State
-heapless r = record { words = 0; registers = r }
+heapless r = holding 0 r
 
 pub record Ready (buffer : List ℕ) (s : State) : Type 0 where
   pub within : s .words ≤ length buffer

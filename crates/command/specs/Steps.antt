@@ -1,20 +1,21 @@
--- What one command does: its answer's text and the state after it are those of the model's step.
+-- What one command does: its answer in numbers and the state after it are those of the model's step.
 use mathlib.Core.Path.{_≡_}
 use mathlib.Core.Bool.{Bool, true, false}
 use mathlib.Core.List.{List}
 use Prim.Native.Nat.{ℕ}
+use lib.ListN.{set as put}
 use Rattle.model.specs.Res.{Res, ok, refuse, _>>=_}
 use Rattle.model.specs.Records.{Ptr, Cell}
 use Rattle.model.specs.Command.{Command, new, alloc, set, load, store, report, figure}
-use Rattle.model.specs.Run.{pointerIn, added, step, stepped}
+use Rattle.model.specs.Run.{loadLine, pointerIn, added, step, stepped}
 use Rattle.access.specs.Access.{pointerOf}
 use Rattle.registers.specs.declared.Registers.{Registers}
-use Rattle.registers.specs.Cells.{Good}
-use Rattle.lines.specs.declared.Answer.{Answer}
-use Rattle.lines.specs.Answers.{answerText}
+use Rattle.registers.specs.Cells.{cellsOfRegisters, Good}
+use Rattle.command.specs.declared.answers.Answer.{Answer}
 use Rattle.command.specs.declared.State.{State}
 use Rattle.command.specs.declared.Target.{Target}
 use Rattle.command.specs.declared.Target.the-variants.{Is, Refused}
+use Rattle.command.specs.Answers.{answerLine, GoodAnswer}
 use Rattle.command.specs.State.{stateOf, Held, stateIn, Ready}
 
 abbrev pub targetAnswer : Target → Res Ptr
@@ -34,13 +35,22 @@ isNew (store r p d) = false
 isNew report = false
 isNew (figure r) = false
 
+-- a cell's value is answered and stands in a register
+pub record Loads (r : Registers) (k : ℕ) (c : Cell) (a : Answer) (r′ : Registers) : Type 0 where
+  pub line : answerLine a ≡ loadLine c
+  pub whole : GoodAnswer a
+  pub cells : cellsOfRegisters r′ ≡ put (cellsOfRegisters r) k c
+  pub good : Good r′
+
 -- over the heap's own words
 pub record Acts (c : Command) (w : List ℕ) (r : Registers) (a : Answer) (v : List ℕ) (r′ : Registers) : Type 0 where
-  pub stepping : stepped (stateOf w r) (step c (stateOf w r)) ≡ (answerText a, stateOf v r′)
+  pub stepping : stepped (stateOf w r) (step c (stateOf w r)) ≡ (answerLine a, stateOf v r′)
+  pub whole : GoodAnswer a
   pub held : Held v
   pub good : Good r′
 
 -- over a buffer with room for any heap of the program
 pub record Performs (c : Command) (buffer : List ℕ) (s : State) (a : Answer) (buffer′ : List ℕ) (s′ : State) : Type 0 where
-  pub stepping : stepped (stateIn buffer s) (step c (stateIn buffer s)) ≡ (answerText a, stateIn buffer′ s′)
+  pub stepping : stepped (stateIn buffer s) (step c (stateIn buffer s)) ≡ (answerLine a, stateIn buffer′ s′)
+  pub whole : GoodAnswer a
   pub ready : Ready buffer′ s′

@@ -1,10 +1,12 @@
 // One command of the program: what it asks, what it does to heap and registers, and its answer.
+mod answers;
+
 use access::Loaded;
 use access::Stored;
+pub use answers::Answer;
 use collector::Allocated;
 use figure::Figured;
 use image::Made;
-use lines::Answer;
 use reader::Command;
 use registers::Registers;
 use report::Reported;
@@ -14,20 +16,21 @@ ghost use mathlib.Core.Path.{_≡_};
 ghost use mathlib.Core.Bool.{true};
 ghost use mathlib.Core.List.{List};
 ghost use Prim.Native.Nat.{ℕ, _<_, _≤_};
-ghost use lib.ListN.{length, set as put};
+ghost use lib.ListN.{length};
 ghost use mir.Syntax.{w64};
 ghost use mir.Val.{ofZ};
 ghost use Rattle.model.specs.Lists.{allAtMost};
 ghost use Rattle.model.specs.Records.{valid};
 ghost use Rattle.model.specs.Command.{new, alloc, set, load, store, report as reportCommand, figure, registersOf};
 ghost use Rattle.model.specs.Run.{programBounds};
+ghost use Rattle.theorems.specs.Program.{programWords, programScratch};
 ghost use Rattle.value.specs.Value.{valueCell};
 ghost use Rattle.image.specs.Places.{sizes};
-ghost use Rattle.registers.specs.Cells.{cellsOfRegisters, Good};
+ghost use Rattle.registers.specs.Cells.{Good};
 ghost use Rattle.reader.specs.Answer.{modelCommand};
-ghost use Rattle.lines.specs.declared.Answer.the-variants.{Load, Refused};
-ghost use Rattle.command.specs.State.{heapless, Held, Ready};
-ghost use Rattle.command.specs.Steps.{targetAnswer, targetIn, isNew, Acts, Performs};
+ghost use Rattle.command.specs.declared.answers.Answer.the-variants.{Refused};
+ghost use Rattle.command.specs.State.{holding, heapless, Held, Ready};
+ghost use Rattle.command.specs.Steps.{targetAnswer, targetIn, isNew, Loads, Acts, Performs};
 
 // The heap's words in a buffer, 0 without a heap; and the registers.
 pub struct State {
@@ -96,7 +99,7 @@ fn alloc_in(
     amount: i64,
 ) -> Acted
     requires { ⌜ Held (now image) ⌝ }
-    requires { ⌜ 5754 ≤ length (now scratch) ⌝ }
+    requires { ⌜ programScratch ≤ length (now scratch) ⌝ }
     requires { ⌜ (register < 16) × Good registers ⌝ }
     ensures { λ r. ⌜ Acts (alloc register (ofZ w64 amount)) (now (image .entry)) registers (r .answer) (now (image .exit)) (r .registers) ⌝ }
 {
@@ -149,16 +152,16 @@ fn target_of(v: Value, offset: i64) -> Target
     })
 }
 
-// The value goes to the register made anew from its words, as every register's is.
+// The value is made anew from its words, as every register's is.
 fn loaded(registers: Registers, register: usize, v: Value) -> Acted
     requires { ⌜ (register < 16) × Good registers ⌝ }
     requires { ⌜ valid (valueCell v) ≡ true ⌝ }
-    ensures { λ r. ⌜ (r .answer ≡ Load v) × (cellsOfRegisters (r .registers) ≡ put (cellsOfRegisters registers) register (valueCell v)) × Good (r .registers) ⌝ }
+    ensures { λ r. ⌜ Loads registers register (valueCell v) (r .answer) (r .registers) ⌝ }
 {
     let w = value::encode(v);
     let x = value::value_of(w.tag, w.payload, w.offset);
     Acted {
-        answer: Answer::Load(v),
+        answer: Answer::Load(x),
         registers: registers.set(register, x),
     }
 }
@@ -250,36 +253,32 @@ fn is_bounded(n: u64, t: u64, s: u64, c: u64) -> bool
     c <= 512
 }
 
-// What one command leaves.
-pub struct Performed {
-    pub answer: Answer,
-    pub state: State,
+// The answer, and the words of the heap that was made, 0 if there is none.
+struct Begun {
+    answer: Answer,
+    words: usize,
 }
 
 // The first heap: 14 got a yes. 1 asks of the program's limits.
-fn make(buffer: &mut [u64], registers: Registers, n: u64, t: u64, s: u64, c: u64) -> Performed
-    requires { ⌜ (2698 ≤ length (now buffer)) × Good registers ⌝ }
-    ensures { λ r. ⌜ Performs (new (sizes n t s c)) (now (buffer .entry)) (heapless registers) (r .answer) (now (buffer .exit)) (r .state) ⌝ }
+fn make(buffer: &mut [u64], n: u64, t: u64, s: u64, c: u64) -> Begun
+    requires { ⌜ programWords ≤ length (now buffer) ⌝ }
+    ensures { λ r. ⌜ ((registers : Registers) → Good registers → Performs (new (sizes n t s c)) (now (buffer .entry)) (heapless registers) (r .answer) (now (buffer .exit)) (holding (r .words) registers)) ⌝ }
 {
-    let none = State {
-        words: 0,
-        registers,
-    };
     if !is_bounded(n, t, s, c) {
-        return Performed {
+        return Begun {
             answer: Answer::Refused(1),
-            state: none,
+            words: 0,
         };
     }
     let words = image::words(n, t, s, c) as usize;
     match image::fresh(&mut buffer[..words], n, t, s, c) {
-        Made::Done => Performed {
+        Made::Done => Begun {
             answer: Answer::New,
-            state: State { words, registers },
+            words,
         },
-        Made::Refused(q) => Performed {
+        Made::Refused(q) => Begun {
             answer: Answer::Refused(q),
-            state: none,
+            words: 0,
         },
     }
 }
@@ -289,7 +288,7 @@ fn make(buffer: &mut [u64], registers: Registers, n: u64, t: u64, s: u64, c: u64
 // Over the heap's own words, none without a heap. A `new` comes here only if there is a heap: 14.
 fn act(image: &mut [u64], scratch: &mut [u64], registers: Registers, command: Command) -> Acted
     requires { ⌜ Held (now image) × Good registers ⌝ }
-    requires { ⌜ 5754 ≤ length (now scratch) ⌝ }
+    requires { ⌜ programScratch ≤ length (now scratch) ⌝ }
     requires { ⌜ allAtMost 15 (registersOf (modelCommand command)) ≡ true ⌝ }
     requires { ⌜ (isNew (modelCommand command) ≡ true → 0 < length (now image)) ⌝ }
     ensures { λ r. ⌜ Acts (modelCommand command) (now (image .entry)) registers (r .answer) (now (image .exit)) (r .registers) ⌝ }
@@ -300,7 +299,7 @@ fn act(image: &mut [u64], scratch: &mut [u64], registers: Registers, command: Co
             image,
             scratch,
             registers,
-            register,
+            register as usize,
             amount,
         ),
         Command::Set {
@@ -308,26 +307,56 @@ fn act(image: &mut [u64], scratch: &mut [u64], registers: Registers, command: Co
             tag,
             payload,
             offset,
-        } => set_register(registers, register, tag, payload, offset),
+        } => set_register(registers, register as usize, tag as u64, payload, offset),
         Command::Load {
             register,
             pointer,
             offset,
-        } => load_in(image, registers, register, pointer, offset),
+        } => load_in(
+            image,
+            registers,
+            register as usize,
+            pointer as usize,
+            offset,
+        ),
         Command::Store {
             register,
             pointer,
             offset,
-        } => store_in(image, registers, register, pointer, offset),
+        } => store_in(
+            image,
+            registers,
+            register as usize,
+            pointer as usize,
+            offset,
+        ),
         Command::Report => report_in(image, registers),
-        Command::Figure { register } => take_figure(registers, register),
+        Command::Figure { register } => take_figure(registers, register as usize),
+    }
+}
+
+// What one command leaves.
+pub struct Performed {
+    pub answer: Answer,
+    pub state: State,
+}
+
+// The state is made anew here and nowhere else.
+fn leave(words: usize, acted: Acted) -> Performed
+    ensures { λ r. ⌜ (r .answer ≡ acted .answer) × (r .state ≡ holding words (acted .registers)) ⌝ }
+{
+    let answer = acted.answer;
+    let registers = acted.registers;
+    Performed {
+        answer,
+        state: State { words, registers },
     }
 }
 
 // The buffer has room for every heap of the program, scratch for its every alloc.
 pub fn perform(buffer: &mut [u64], scratch: &mut [u64], state: State, command: Command) -> Performed
     requires { ⌜ Ready (now buffer) state ⌝ }
-    requires { ⌜ (2698 ≤ length (now buffer)) × (5754 ≤ length (now scratch)) ⌝ }
+    requires { ⌜ (programWords ≤ length (now buffer)) × (programScratch ≤ length (now scratch)) ⌝ }
     requires { ⌜ allAtMost 15 (registersOf (modelCommand command)) ≡ true ⌝ }
     ensures { λ r. ⌜ Performs (modelCommand command) (now (buffer .entry)) state (r .answer) (now (buffer .exit)) (r .state) ⌝ }
 {
@@ -335,17 +364,11 @@ pub fn perform(buffer: &mut [u64], scratch: &mut [u64], state: State, command: C
     let registers = state.registers;
     if words == 0 {
         if let Command::New { n, t, s, c } = command {
-            return make(buffer, registers, n, t, s, c);
+            let made = make(buffer, n as u64, t as u64, s as u64, c as u64);
+            let answer = made.answer;
+            return leave(made.words, Acted { answer, registers });
         }
     }
-    let a = act(&mut buffer[..words], scratch, registers, command);
-    let answer = a.answer;
-    let after = a.registers;
-    Performed {
-        answer,
-        state: State {
-            words,
-            registers: after,
-        },
-    }
+    let acted = act(&mut buffer[..words], scratch, registers, command);
+    leave(words, acted)
 }

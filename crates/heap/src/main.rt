@@ -4,13 +4,18 @@ use libc::STDIN_FILENO;
 use libc::STDOUT_FILENO;
 use listing::IMAGE;
 use listing::SCRATCH;
-ghost use Prim.Native.Nat.{_≤_};
+ghost use mathlib.Core.Path.{_≡_};
+ghost use Prim.Native.Nat.{_+_, _^_, _<_, _≤_};
 ghost use lib.ListN.{length};
+ghost use Rattle.model.specs.Listing.{longestFile};
+ghost use Rattle.heap.specs.Bytes.{Comes, Prints};
 
 // A byte more than the longest file has, which tells that a file is too long.
 const FILE: usize = 65537;
 
 const OUT: usize = 16384;
+
+// ---- Standard input
 
 // How many bytes were read, and whether no read failed.
 struct Input {
@@ -18,43 +23,78 @@ struct Input {
     is_read: bool,
 }
 
+// One read, behind the bytes of those before it.
+fn read_more(file: &mut [u8], len: usize) -> Input
+    requires { ⌜ len ≤ length (now file) ⌝ }
+    ensures { λ r. ⌜ Comes (now (file .entry)) len (now (file .exit)) (r .len) ⌝ }
+{
+    let got = libc::read(STDIN_FILENO, &mut file[len..]);
+    let n = io::count(got, &file[len..]);
+    Input {
+        len: len + n,
+        is_read: 0 <= got,
+    }
+}
+
 // To the end of the input, or until `file` is full. A pipe hands over a part at a time.
 fn read_all(file: &mut [u8]) -> Input
+    requires { ⌜ longestFile < length (now file) ⌝ }
     ensures { λ r. ⌜ r .len ≤ length (now (file .exit)) ⌝ }
 {
     let mut len = 0;
     while len < file.len() {
-        let got = libc::read(STDIN_FILENO, &mut file[len..]);
-        if got < 0 {
-            return Input {
-                len,
-                is_read: false,
-            };
+        let more = read_more(file, len);
+        if !more.is_read {
+            return more;
         }
-        let n = io::count(got, &file[len..]);
-        if n == 0 {
+        if more.len == len {
             break;
         }
-        len += n;
+        len = more.len;
     }
     Input { len, is_read: true }
 }
 
-// The file's listing, by the bufferful. False if a write failed.
-fn print_all(file: &[u8]) -> bool {
+// ---- Standard output
+
+// How many bytes were handed on, and whether no write failed.
+struct Output {
+    len: usize,
+    written: bool,
+}
+
+// What is handed on is counted where it is handed on.
+fn write_more(bytes: &[u8], len: usize) -> Output
+    requires { ⌜ len + length (now bytes) < 2 ^ 64 ⌝ }
+    ensures { λ r. ⌜ r .len ≡ len + length (now (bytes .entry)) ⌝ }
+{
+    Output {
+        len: len + bytes.len(),
+        written: io::write_all(STDOUT_FILENO, bytes),
+    }
+}
+
+// The file's listing, by the bufferful.
+fn print_all(file: &[u8]) -> Output
+    requires { ⌜ length (now file) ≤ longestFile + 1 ⌝ }
+    ensures { λ r. ⌜ Prints (now (file .entry)) (r .len) (r .written) ⌝ }
+{
     let mut image = [0u64; IMAGE];
     let mut scratch = [0u64; SCRATCH];
     let mut out = [0u8; OUT];
     let mut run = listing::begin();
+    let mut len = 0;
     while run.at < file.len() {
         let filled = listing::fill(file, &mut image, &mut scratch, run, &mut out);
         let used = filled.used;
-        if !io::write_all(STDOUT_FILENO, &out[..used]) {
-            return false;
+        let more = write_more(&out[..used], len);
+        if !more.written {
+            return more;
         }
+        len = more.len;
         run = filled.run;
     }
-    true
+    Output { len, written: true }
 }
 
 fn main() {
@@ -65,7 +105,8 @@ fn main() {
         return;
     }
     let len = input.len;
-    if !print_all(&file[..len]) {
+    let output = print_all(&file[..len]);
+    if !output.written {
         os::fail(b"standard output");
     }
 }

@@ -1,38 +1,39 @@
 -- The most bytes that a text has.
 use mathlib.Core.Bool.{Bool, true, false, cond}
 use mathlib.Core.List.{[], _∷_}
-use Prim.Native.Nat.{ℕ, _-_, _/_, _≤_}
+use Prim.Native.Nat.{ℕ, _*_, _-_, _/_, _≤_}
 use native.Mathlib.Omega.{arith}
 use lib.Dec.{ltb}
 use lib.ListN.{length, length-append}
 use mir.Syntax.{w64}
 use mir.Val.{ofZ}
 use Rattle.model.specs.Records.{Cell, plain, ref}
-use Rattle.model.specs.Listing.{decimal, signed, figureText, cellText, newWord, allocWord, setWord, loadWord, storeWord, reportWord, figureWord, noWord, refusal}
+use Rattle.model.specs.Listing.{decimal, signed, figureText, cellText, newWord, allocWord, setWord, loadWord, storeWord, reportWord, figureWord, noWord, lineText}
 use Rattle.value.specs.Value.{valueCell}
 use Rattle.figure.proofs.Digits.{decimal-length}
 use Rattle.figure.proofs.Writes.{sign-length}
 use Rattle.report.specs.Numbers.{numbers}
-use Rattle.lines.specs.Answers.{allocText, loadText, reportText, figureLine, answerText}
-use Rattle.lines.specs.declared.Answer.{Answer}
-use Rattle.lines.specs.declared.Answer.the-variants.{New, Alloc, Set, Load, Store, Report, Figure as FigureOf, Refused}
+use Rattle.command.specs.declared.answers.Answer.{Answer}
+use Rattle.command.specs.declared.answers.Answer.the-variants.{New, Alloc, Set, Load, Store, Report, Figure as FigureOf, Refused}
+use Rattle.command.specs.Answers.{answerLine}
+use Rattle.lines.specs.Longest.{longestSpaced, longestText}
 use Rattle.lines.proofs.Loops.{spaced-length}
 
-pub signed-length : (w : ℕ) → length (signed w) ≤ 21
+pub signed-length : (w : ℕ) → length (signed w) ≤ longestSpaced
 unfolding signed
 signed-length w = go (ltb w 0x8000_0000_0000_0000)
   where
-    go : (b : Bool) → length (cond b (decimal w) (0x2D ∷ decimal (0x1_0000_0000_0000_0000 - w))) ≤ 21
+    go : (b : Bool) → length (cond b (decimal w) (0x2D ∷ decimal (0x1_0000_0000_0000_0000 - w))) ≤ longestSpaced
     go true = omega (arith, decimal-length w)
     go false = omega (arith, decimal-length (0x1_0000_0000_0000_0000 - w))
 
-cell-length : (c : Cell) → length (cellText c) ≤ 84
+cell-length : (c : Cell) → length (cellText c) ≤ 4 * longestSpaced
 unfolding cellText
 cell-length (plain k v) = spaced-length (k ∷ 0 ∷ v ∷ 0 ∷ [])
 cell-length (ref p) = spaced-length (5 ∷ p .heap ∷ p .base ∷ p .off ∷ [])
 
-pub answer-length : (a : Answer) → length (answerText a) ≤ 237
-unfolding answerText allocText loadText reportText figureLine figureText numbers newWord allocWord setWord loadWord storeWord reportWord figureWord noWord refusal
+pub answer-length : (a : Answer) → length (lineText (answerLine a)) ≤ longestText
+unfolding lineText figureText numbers newWord allocWord setWord loadWord storeWord reportWord figureWord noWord
 answer-length New = omega arith
 answer-length (Alloc a) =
     let p = a .pointer in

@@ -10,6 +10,7 @@ use Rattle.model.specs.Listing.{decimal, spaced}
 use Rattle.figure.specs.Written.{Wrote}
 use Rattle.figure.proofs.Digits.{decimal-length}
 use Rattle.figure.proofs.Writes.{wrote-none, wrote-byte, wrote-both}
+use Rattle.lines.specs.Longest.{longestSpaced}
 
 -- ---- `word`: i bytes are written
 
@@ -43,7 +44,7 @@ unfolding spaced
 spaced-both [] b = refl
 spaced-both (x ∷ a) b = rw (spaced-both a b) (sym (append-assoc (0x20 ∷ decimal x) (spaced a) (spaced b)))
 
-pub spaced-length : (n : List ℕ) → length (spaced n) ≤ 21 * length n
+pub spaced-length : (n : List ℕ) → length (spaced n) ≤ longestSpaced * length n
 unfolding spaced
 spaced-length [] = omega arith
 spaced-length (x ∷ n) = omega (arith, length-append (decimal x) (spaced n), decimal-length x, spaced-length n)
@@ -51,10 +52,10 @@ spaced-length (x ∷ n) = omega (arith, length-append (decimal x) (spaced n), de
 pub record Spacing (n out₀ : List ℕ) (at : ℕ) (out : List ℕ) (end i : ℕ) : Type 0 where
   pub within : i ≤ length n
   pub same : length out ≡ length out₀
-  pub short : end ≤ at + 21 * i
+  pub short : end ≤ at + longestSpaced * i
   pub done : Wrote (spaced (take i n)) out₀ at out end
 
-pub space-begin : (n out : List ℕ) (at : ℕ) → at + 21 * length n ≤ length out → Spacing n out at out at 0
+pub space-begin : (n out : List ℕ) (at : ℕ) → at + longestSpaced * length n ≤ length out → Spacing n out at out at 0
 unfolding spaced
 space-begin n out at h = record { within = omega arith; same = refl; short = omega arith; done = wrote-none out at (omega arith) }
 

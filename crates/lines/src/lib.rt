@@ -1,28 +1,20 @@
 // The listing's lines: a command's number, its answer's text, LF. Each function writes at a place of `out`, leaves the rest as
 // it was, and returns the place behind its text.
 use collector::Allocation;
+use command::Answer;
 use figure::Figure;
 use report::Statistics;
 use value::Value;
 ghost use mathlib.Core.Path.{_≡_};
 ghost use Prim.Native.Nat.{_+_, _*_, _≤_};
 ghost use lib.ListN.{length};
-ghost use Rattle.model.specs.Listing.{spaced, cellText, refusal, line};
+ghost use Rattle.model.specs.Run.{noLine};
+ghost use Rattle.model.specs.Listing.{spaced, cellText, lineText, line};
 ghost use Rattle.value.specs.Value.{valueCell};
 ghost use Rattle.figure.specs.Written.{Wrote};
-ghost use Rattle.lines.specs.Answers.{allocText, loadText, reportText, figureLine, answerText};
-
-// What a command is answered. Refused has the number of the question that got a no.
-pub enum Answer {
-    New,
-    Alloc(Allocation),
-    Set,
-    Load(Value),
-    Store,
-    Report(Statistics),
-    Figure(Figure),
-    Refused(u64),
-}
+ghost use Rattle.command.specs.declared.answers.Answer.the-variants.{Alloc, Load, Report, Figure as FigureOf};
+ghost use Rattle.command.specs.Answers.{answerLine};
+ghost use Rattle.lines.specs.Longest.{longestSpaced, longestText, longestLine};
 
 // ---- Parts of a text
 
@@ -40,7 +32,7 @@ fn word(w: &[u8], out: &mut [u8], at: usize) -> usize
 
 // Each after a space.
 fn each_spaced(n: &[u64], out: &mut [u8], at: usize) -> usize
-    requires { ⌜ at + 21 * length (now n) ≤ length (now out) ⌝ }
+    requires { ⌜ at + longestSpaced * length (now n) ≤ length (now out) ⌝ }
     ensures { λ r. ⌜ Wrote (spaced (now (n .entry))) (now (out .entry)) at (now (out .exit)) r ⌝ }
 {
     let mut end = at;
@@ -69,8 +61,8 @@ fn cell_numbers(v: Value) -> [u64; 4]
 
 // The pointer, its offset signed, then the four counts.
 fn alloc_text(a: Allocation, out: &mut [u8], at: usize) -> usize
-    requires { ⌜ at + 153 ≤ length (now out) ⌝ }
-    ensures { λ r. ⌜ Wrote (allocText a) (now (out .entry)) at (now (out .exit)) r ⌝ }
+    requires { ⌜ at + longestText ≤ length (now out) ⌝ }
+    ensures { λ r. ⌜ Wrote (lineText (answerLine (Alloc a))) (now (out .entry)) at (now (out .exit)) r ⌝ }
 {
     let p = a.pointer;
     let young = a.nursery;
@@ -87,8 +79,8 @@ fn alloc_text(a: Allocation, out: &mut [u8], at: usize) -> usize
 }
 
 fn load_text(v: Value, out: &mut [u8], at: usize) -> usize
-    requires { ⌜ at + 88 ≤ length (now out) ⌝ }
-    ensures { λ r. ⌜ Wrote (loadText v) (now (out .entry)) at (now (out .exit)) r ⌝ }
+    requires { ⌜ at + longestText ≤ length (now out) ⌝ }
+    ensures { λ r. ⌜ Wrote (lineText (answerLine (Load v))) (now (out .entry)) at (now (out .exit)) r ⌝ }
 {
     let n = cell_numbers(v);
     let cell = word(&[b'l', b'o', b'a', b'd'], out, at);
@@ -96,8 +88,8 @@ fn load_text(v: Value, out: &mut [u8], at: usize) -> usize
 }
 
 fn report_text(s: Statistics, out: &mut [u8], at: usize) -> usize
-    requires { ⌜ at + 237 ≤ length (now out) ⌝ }
-    ensures { λ r. ⌜ Wrote (reportText s) (now (out .entry)) at (now (out .exit)) r ⌝ }
+    requires { ⌜ at + longestText ≤ length (now out) ⌝ }
+    ensures { λ r. ⌜ Wrote (lineText (answerLine (Report s))) (now (out .entry)) at (now (out .exit)) r ⌝ }
 {
     let n = report::words(s);
     let rest = word(&[b'r', b'e', b'p', b'o', b'r', b't'], out, at);
@@ -105,8 +97,8 @@ fn report_text(s: Statistics, out: &mut [u8], at: usize) -> usize
 }
 
 fn figure_text(f: Figure, out: &mut [u8], at: usize) -> usize
-    requires { ⌜ at + 32 ≤ length (now out) ⌝ }
-    ensures { λ r. ⌜ Wrote (figureLine f) (now (out .entry)) at (now (out .exit)) r ⌝ }
+    requires { ⌜ at + longestText ≤ length (now out) ⌝ }
+    ensures { λ r. ⌜ Wrote (lineText (answerLine (FigureOf f))) (now (out .entry)) at (now (out .exit)) r ⌝ }
 {
     let space = word(&[b'f', b'i', b'g', b'u', b'r', b'e'], out, at);
     let number = figure::text::byte(b' ', out, space);
@@ -114,16 +106,16 @@ fn figure_text(f: Figure, out: &mut [u8], at: usize) -> usize
 }
 
 fn refusal_text(q: u64, out: &mut [u8], at: usize) -> usize
-    requires { ⌜ at + 23 ≤ length (now out) ⌝ }
-    ensures { λ r. ⌜ Wrote (refusal q) (now (out .entry)) at (now (out .exit)) r ⌝ }
+    requires { ⌜ at + longestText ≤ length (now out) ⌝ }
+    ensures { λ r. ⌜ Wrote (lineText (noLine q)) (now (out .entry)) at (now (out .exit)) r ⌝ }
 {
     let number = word(&[b'n', b'o'], out, at);
     figure::text::spaced(q, out, number)
 }
 
 fn text(answer: Answer, out: &mut [u8], at: usize) -> usize
-    requires { ⌜ at + 237 ≤ length (now out) ⌝ }
-    ensures { λ r. ⌜ Wrote (answerText answer) (now (out .entry)) at (now (out .exit)) r ⌝ }
+    requires { ⌜ at + longestText ≤ length (now out) ⌝ }
+    ensures { λ r. ⌜ Wrote (lineText (answerLine answer)) (now (out .entry)) at (now (out .exit)) r ⌝ }
 {
     match answer {
         Answer::New => word(&[b'n', b'e', b'w'], out, at),
@@ -141,8 +133,8 @@ fn text(answer: Answer, out: &mut [u8], at: usize) -> usize
 pub const LINE: usize = 259;
 
 pub fn line(number: u64, answer: Answer, out: &mut [u8], at: usize) -> usize
-    requires { ⌜ at + 259 ≤ length (now out) ⌝ }
-    ensures { λ r. ⌜ Wrote (line number (answerText answer)) (now (out .entry)) at (now (out .exit)) r ⌝ }
+    requires { ⌜ at + longestLine ≤ length (now out) ⌝ }
+    ensures { λ r. ⌜ Wrote (line number (answerLine answer)) (now (out .entry)) at (now (out .exit)) r ⌝ }
 {
     let space = figure::text::decimal(number, out, at);
     let from = figure::text::byte(b' ', out, space);

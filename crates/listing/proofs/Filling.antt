@@ -7,6 +7,7 @@ use native.Mathlib.Omega.{arith}
 use lib.ListN.{length, take}
 use Rattle.figure.specs.Written.{Wrote}
 use Rattle.figure.proofs.Writes.{take-written}
+use Rattle.lines.specs.Longest.{longestLine}
 use Rattle.listing.specs.declared.Run.{Run}
 use Rattle.listing.specs.Left.{leftOf, Going, Advances, Fills}
 
@@ -36,10 +37,10 @@ module _ {file buffer₀ buffer out : List ℕ} {r next : Run} {used : ℕ} (f :
   }
 
   -- the room was enough for a line
-  pub fill-done : 259 ≤ length out → (length file ≤ next .at) ⊎ (length out < used + 259) → Fills file buffer₀ r buffer next out used
+  pub fill-done : longestLine ≤ length out → (length file ≤ next .at) ⊎ (length out < used + longestLine) → Fills file buffer₀ r buffer next out used
   fill-done m o = record {
     inside = f .inside;
     listed = f .listed;
-    further = λ h. ⊎-elim (λ z. ⊎-elim (λ (e : length file ≤ next .at). omega arith) (λ (e : length out < used + 259). omega arith) o) (λ e. e) (f .begun);
+    further = λ h. ⊎-elim (λ z. ⊎-elim (λ (e : length file ≤ next .at). omega arith) (λ (e : length out < used + longestLine). omega arith) o) (λ e. e) (f .begun);
     going = f .going;
   }

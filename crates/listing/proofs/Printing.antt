@@ -14,7 +14,9 @@ printed-first (nothing e) = e
 printed-first {file} (more {buffer′ = b} {out = out} {printed = p} {r′ = r} {used = used} before f) =
     append-assoc p (take used out) (leftOf file b r) ∙ ap (λ (l : List ℕ). p ++ l) (f .listed) ∙ printed-first before
 
-pub printed-all : {file buffer printed : List ℕ} {r : Run} → Printed file buffer r printed → r .at ≡ length file → printed ≡ listing file
+pub nothing-left : (file buffer : List ℕ) (r : Run) → r .at ≡ length file → leftOf file buffer r ≡ []
 unfolding leftOf
-printed-all {file} {buffer} {printed} {r} p e =
-    sym (append-nil printed) ∙ ap (λ (l : List ℕ). printed ++ l) (sym (rw e (left-none file (r .number) (stateIn buffer (r .state))))) ∙ printed-first p
+nothing-left file buffer r e = rw e (left-none file (r .number) (stateIn buffer (r .state)))
+
+pub printed-all : {file buffer printed : List ℕ} {r : Run} → Printed file buffer r printed → r .at ≡ length file → printed ≡ listing file
+printed-all {file} {buffer} {printed} {r} p e = sym (append-nil printed) ∙ ap (λ (l : List ℕ). printed ++ l) (sym (nothing-left file buffer r e)) ∙ printed-first p

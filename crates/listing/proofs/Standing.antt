@@ -12,6 +12,7 @@ use borrow.Author.Tests.{le-leb, lt-leb}
 use Rattle.model.specs.Lists.{allAtMost}
 use Rattle.model.specs.Res.{Res, ok, refuse}
 use Rattle.model.specs.Command.{Command, registersOf, parse, parseUpTo, parseAll}
+use Rattle.model.specs.Listing.{longestFile}
 use Rattle.theorems.proofs.Reading.{registers-below}
 use Rattle.reader.specs.Answer.{placed, nextAt}
 use Rattle.reader.specs.Progress.{Passed}
@@ -21,30 +22,30 @@ use Rattle.listing.specs.Left.{tooLong, byLength, standsAt, commandsFrom
 -- By the file's length
 
 module _ (file : List ℕ) (at : ℕ) where
-  pub stands-short : length file ≤ 65536 → standsAt file at ≡ nextAt file at
+  pub stands-short : length file ≤ longestFile → standsAt file at ≡ nextAt file at
   unfolding standsAt
-  stands-short h = rw (le-leb (length file) 65536 h)
+  stands-short h = rw (le-leb (length file) longestFile h)
 
-  pub stands-long : 65536 < length file → at < length file → refuse 12 ≡ standsAt file at
+  pub stands-long : longestFile < length file → at < length file → refuse 12 ≡ standsAt file at
   unfolding standsAt
-  stands-long h i = rw (lt-leb (length file) 65536 h, drop-cons file at 0 i)
+  stands-long h i = rw (lt-leb (length file) longestFile h, drop-cons file at 0 i)
 
-  pub stands-end : 65536 < length file → length file ≤ at → ok none ≡ standsAt file at
+  pub stands-end : longestFile < length file → length file ≤ at → ok none ≡ standsAt file at
   unfolding standsAt
-  stands-end h i = rw (lt-leb (length file) 65536 h, drop-of-length-le file i)
+  stands-end h i = rw (lt-leb (length file) longestFile h, drop-of-length-le file i)
 
-  commands-short : leb (length file) 65536 ≡ true → commandsFrom file at ≡ parseAll (drop at file)
+  commands-short : leb (length file) longestFile ≡ true → commandsFrom file at ≡ parseAll (drop at file)
   unfolding commandsFrom
   commands-short p = rw p
 
-  commands-long : leb (length file) 65536 ≡ false → commandsFrom file at ≡ ([], drop at file)
+  commands-long : leb (length file) longestFile ≡ false → commandsFrom file at ≡ ([], drop at file)
   unfolding commandsFrom
   commands-long p = rw p
 
 -- no commands at the end
 pub commands-none : (file : List ℕ) → commandsFrom file (length file) ≡ ([], [])
 unfolding commandsFrom parseAll parseUpTo
-commands-none file = rw (drop-length file) (go (leb (length file) 65536))
+commands-none file = rw (drop-length file) (go (leb (length file) longestFile))
   where
     go : (b : Bool) → byLength b (parseAll []) ([], []) ≡ ([], [])
     go true = refl
@@ -66,16 +67,16 @@ module _ (file : List ℕ) (at : ℕ) (h : at < length file) where
   unfolding nextAt
   no-end e = placed-some (length file) (parse (getD file at 0 ∷ drop (suc at) file)) (rw (drop-cons file at 0 h) at e)
 
-  short : leb (length file) 65536 ≡ true → (x : Res (Option (Command × ℕ))) → x ≡ nextAt file at → Stands file at x
+  short : leb (length file) longestFile ≡ true → (x : Res (Option (Command × ℕ))) → x ≡ nextAt file at → Stands file at x
   short p (ok none) e = no-end e
   short p (ok (some (c, k))) e = (passed file at e, rw (commands-short file at p, commands-short file k p) (left-command file at e))
   short p (refuse q) e = commands-short file at p ∙ left-malformed file at e
 
   stands : Stands file at (standsAt file at)
   unfolding standsAt
-  stands = go (leb (length file) 65536) refl
+  stands = go (leb (length file) longestFile) refl
     where
-      go : (b : Bool) → leb (length file) 65536 ≡ b → Stands file at (byLength b (nextAt file at) (tooLong (drop at file)))
+      go : (b : Bool) → leb (length file) longestFile ≡ b → Stands file at (byLength b (nextAt file at) (tooLong (drop at file)))
       go true p = short p (nextAt file at) refl
       go false p = rw (drop-cons file at 0 h) (commands-long file at p)
 

@@ -11,8 +11,8 @@ use borrow.Author.Tests.{leb-false}
 use Rattle.model.specs.Lists.{flat}
 use Rattle.model.specs.Records.{blank}
 use Rattle.model.specs.Command.{parseAll}
-use Rattle.model.specs.Run.{State, started}
-use Rattle.model.specs.Listing.{refusal, line, linesFrom, lines, listing}
+use Rattle.model.specs.Run.{State, started, noLine}
+use Rattle.model.specs.Listing.{line, linesFrom, longestFile, lines, listing}
 use Rattle.registers.specs.declared.Registers.{Registers}
 use Rattle.registers.specs.Cells.{cellsOfRegisters, Good}
 use Rattle.command.specs.State.{heapIn, stateOf, Held, heapless}
@@ -29,7 +29,7 @@ no-heap : (s : Registers) → cellsOfRegisters s ≡ replicate 16 blank → stat
 unfolding stateOf heapIn started
 no-heap s e = rw e
 
-only-12 : (s : State) (file : List ℕ) → 65536 < length file → linesFrom 1 s [] file ≡ line 1 (refusal 12) ∷ []
+only-12 : (s : State) (file : List ℕ) → longestFile < length file → linesFrom 1 s [] file ≡ line 1 (noLine 12) ∷ []
 unfolding linesFrom
 only-12 s [] h = absurd (not-suc-le-zero h)
 only-12 s (b ∷ w) h = refl
@@ -37,11 +37,11 @@ only-12 s (b ∷ w) h = refl
 module _ (file buffer : List ℕ) (s : Registers) (e : cellsOfRegisters s ≡ replicate 16 blank) where
   all-left : leftOf file buffer (first s) ≡ listing file
   unfolding leftOf listingFrom commandsFrom listing lines
-  all-left = rw (no-heap s e) (go (leb (length file) 65536) refl)
+  all-left = rw (no-heap s e) (go (leb (length file) longestFile) refl)
     where
-      go : (b : Bool) → leb (length file) 65536 ≡ b → flat (linesFrom 1 started (byLength b (parseAll file) ([], file) .0) (byLength b (parseAll file) ([], file) .1)) ≡ flat (elim b [ true ↦ linesFrom 1 started (parseAll file .0) (parseAll file .1) | false ↦ line 1 (refusal 12) ∷ [] ])
+      go : (b : Bool) → leb (length file) longestFile ≡ b → flat (linesFrom 1 started (byLength b (parseAll file) ([], file) .0) (byLength b (parseAll file) ([], file) .1)) ≡ flat (elim b [ true ↦ linesFrom 1 started (parseAll file .0) (parseAll file .1) | false ↦ line 1 (noLine 12) ∷ [] ])
       go true p = refl
-      go false p = rw (only-12 started file (leb-false (length file) 65536 p))
+      go false p = rw (only-12 started file (leb-false (length file) longestFile p))
 
   pub begins : Good s → Going file buffer (first s) × (leftOf file buffer (first s) ≡ listing file)
   begins g = (record { within = omega arith; counted = omega arith; ready = record { within = omega arith; held = held-none; good = g } }, all-left)

@@ -10,13 +10,13 @@ use Rattle.model.specs.Lists.{flat}
 use Rattle.model.specs.Res.{Res, ok, refuse}
 use Rattle.model.specs.Command.{Command, parseAll}
 use Rattle.model.specs.Run.{State}
-use Rattle.model.specs.Listing.{linesFrom, listing}
+use Rattle.model.specs.Listing.{linesFrom, longestFile, listing}
 use Rattle.figure.specs.Written.{Wrote}
 use Rattle.reader.specs.Answer.{nextAt}
 use Rattle.command.specs.State.{stateIn, Ready}
 use Rattle.listing.specs.declared.Run.{Run}
 
--- what stands at a place; in a file above 65,536 bytes nothing is a command
+-- what stands at a place; in a file that is too long nothing is a command
 
 abbrev pub tooLong : List ℕ → Res (Option (Command × ℕ))
 tooLong [] = ok none
@@ -27,11 +27,11 @@ byLength true short long = short
 byLength false short long = long
 
 unfoldable pub standsAt : List ℕ → ℕ → Res (Option (Command × ℕ))
-standsAt file at = byLength (leb (length file) 65536) (nextAt file at) (tooLong (drop at file))
+standsAt file at = byLength (leb (length file) longestFile) (nextAt file at) (tooLong (drop at file))
 
 -- the commands from a place on, and the bytes behind them
 unfoldable pub commandsFrom : List ℕ → ℕ → List Command × List ℕ
-commandsFrom file at = byLength (leb (length file) 65536) (parseAll (drop at file)) ([], drop at file)
+commandsFrom file at = byLength (leb (length file) longestFile) (parseAll (drop at file)) ([], drop at file)
 
 -- from a place on, with the number of the next command and the state before it
 unfoldable pub listingFrom : List ℕ → ℕ → ℕ → State → List ℕ

@@ -1,6 +1,6 @@
 // The listing of a command file, written into lent buffers, whole lines at a time.
+use command::Answer;
 use command::State;
-use lines::Answer;
 use reader::Next;
 use registers::Registers;
 ghost use mathlib.Core.Path.{_≡_};
@@ -8,7 +8,9 @@ ghost use mathlib.Core.List.{List};
 ghost use Prim.Native.Nat.{ℕ, _+_, _<_, _≤_};
 ghost use lib.ListN.{length};
 ghost use Rattle.model.specs.Listing.{listing};
+ghost use Rattle.theorems.specs.Program.{programWords, programScratch};
 ghost use Rattle.reader.specs.Answer.{nextAnswer};
+ghost use Rattle.lines.specs.Longest.{longestLine};
 ghost use Rattle.listing.specs.Left.{standsAt, leftOf, Going, Advances, Fills};
 
 // Words enough for an image of the program's largest heap, and for its scratch.
@@ -71,8 +73,8 @@ fn advance(
 ) -> Filled
     requires { ⌜ Going (now file) (now buffer) run ⌝ }
     requires { ⌜ run .at < length (now file) ⌝ }
-    requires { ⌜ (2698 ≤ length (now buffer)) × (5754 ≤ length (now scratch)) ⌝ }
-    requires { ⌜ used + 259 ≤ length (now out) ⌝ }
+    requires { ⌜ (programWords ≤ length (now buffer)) × (programScratch ≤ length (now scratch)) ⌝ }
+    requires { ⌜ used + longestLine ≤ length (now out) ⌝ }
     ensures { λ r. ⌜ Advances (now (file .entry)) (now (buffer .entry)) run (now (out .entry)) used (now (buffer .exit)) (r .run) (now (out .exit)) (r .used) ⌝ }
 {
     let number = run.number;
@@ -116,8 +118,8 @@ pub fn fill(
     out: &mut [u8],
 ) -> Filled
     requires { ⌜ Going (now file) (now buffer) run ⌝ }
-    requires { ⌜ (2698 ≤ length (now buffer)) × (5754 ≤ length (now scratch)) ⌝ }
-    requires { ⌜ 259 ≤ length (now out) ⌝ }
+    requires { ⌜ (programWords ≤ length (now buffer)) × (programScratch ≤ length (now scratch)) ⌝ }
+    requires { ⌜ longestLine ≤ length (now out) ⌝ }
     ensures { λ r. ⌜ Fills (now (file .entry)) (now (buffer .entry)) run (now (buffer .exit)) (r .run) (now (out .exit)) (r .used) ⌝ }
 {
     let mut next = run;

@@ -15,8 +15,8 @@ use Rattle.value.specs.declared.Value.{Value}
 use Rattle.value.specs.Value.{valueCell, Spelled}
 use Rattle.value.proofs.RoundTrip.{three-words}
 use Rattle.registers.specs.declared.Registers.{Registers}
-use Rattle.registers.specs.Cells.{cellsOfRegisters, GoodValue, Good}
-use Rattle.registers.proofs.Values.{spelled-good}
+use Rattle.registers.specs.Cells.{cellsOfRegisters, holding, Good}
+use Rattle.registers.proofs.Values.{spelled-good, set-cells, set-good}
 
 -- three words stored after the first 3 * i
 three-stored : (w : List ℕ) (i a b o : ℕ) → 3 * i + 2 < length w → take (3 * (i + 1)) (set (set (set w (3 * i) a) (3 * i + 1) b) (3 * i + 2) o) ≡ take (3 * i) w ++ a ∷ b ∷ o ∷ []
@@ -101,14 +101,15 @@ module _ (w : List ℕ) (l : length w ≡ 48) where
       valid-here = both .0
 
       module _ {v : Value} (p : Spelled (getD w (3 * i) 0) (getD w (3 * i + 1) 0) (getD w (3 * i + 2) 0) v) where
-        pub loaded-more : (t : Registers) → cellsOfRegisters t ≡ set (cellsOfRegisters s) i (valueCell v) → (Good s → GoodValue v → Good t) → Loaded w t (i + 1)
-        loaded-more t is keeps =
+        pub loaded-more : (t : Registers) → t .cells ≡ set (s .cells) i (holding v) → Loaded w t (i + 1)
+        loaded-more t e =
             let cs = cellsOfRegisters s in
+            let is = set-cells s t i v e in
             let front : take (i + 1) (set cs i (valueCell v)) ≡ take i cs ++ valueCell v ∷ [] = rw add-one (take-suc-set cs i (valueCell v) (omega (arith, d .room))) in
             record {
               within = omega arith;
               room = ap length is ∙ length-set cs i (valueCell v) ∙ d .room;
               cells = both .1;
               rest = rw (is, front) (append-snoc (take i cs) (valueCell v) _ ∙ (rw (p .cell) (rw (parted, in-cons) at (d .rest))));
-              good = keeps (d .good) (spelled-good _ _ _ v valid-here p);
+              good = set-good s t i v e (d .good) (spelled-good _ _ _ v valid-here p);
             }

@@ -12,7 +12,7 @@ use Rattle.value.specs.declared.Value.the-variants.{Uninitialized}
 use Rattle.value.specs.Value.{valueCell, Spelled}
 use Rattle.registers.specs.declared.Register.{Register}
 use Rattle.registers.specs.declared.Registers.{Registers}
-use Rattle.registers.specs.Cells.{registerCell, cellsOfRegisters, unset, GoodValue, Good}
+use Rattle.registers.specs.Cells.{registerCell, cellsOfRegisters, holding, unset, GoodValue, Good}
 
 unset-good : GoodValue Uninitialized
 unfolding valueCell blank valid validPlain
@@ -43,27 +43,35 @@ first-good = record { values = first-values 16 }
 
 -- one register read
 
-pub cell-at : (xs : List Register) (r : ℕ) → registerCell (getD xs r unset) ≡ getD (map registerCell xs) r blank
-unfolding valueCell
-cell-at xs r = sym (List·getD-map registerCell xs r unset)
+module _ (s : Registers) (r : ℕ) {v : Value} (e : v ≡ getD (s .cells) r unset .value) where
+  pub got-cell : valueCell v ≡ getD (cellsOfRegisters s) r blank
+  unfolding valueCell
+  got-cell = rw e (sym (List·getD-map registerCell (s .cells) r unset))
+
+  pub got-good : Good s → GoodValue v
+  got-good g = rw e (g .values r)
 
 -- one register set
 
-pub cells-set : (xs : List Register) (r : ℕ) (v : Value) → map registerCell (set xs r (record { value = v })) ≡ set (map registerCell xs) r (valueCell v)
+cells-set : (xs : List Register) (r : ℕ) (v : Value) → map registerCell (set xs r (holding v)) ≡ set (map registerCell xs) r (valueCell v)
 cells-set [] r v = refl
 cells-set (x ∷ xs) zero v = refl
 cells-set (x ∷ xs) (suc r) v = ap (registerCell x ∷_) (cells-set xs r v)
 
 values-set : (xs : List Register) (r : ℕ) (v : Value) → ((k : ℕ) → GoodValue (getD xs k unset .value)) → GoodValue v
-    → (k : ℕ) → GoodValue (getD (set xs r (record { value = v })) k unset .value)
+    → (k : ℕ) → GoodValue (getD (set xs r (holding v)) k unset .value)
 values-set [] r v g n k = g k
 values-set (x ∷ xs) zero v g n zero = n
 values-set (x ∷ xs) zero v g n (suc k) = g (suc k)
 values-set (x ∷ xs) (suc r) v g n zero = g zero
 values-set (x ∷ xs) (suc r) v g n (suc k) = values-set xs r v (λ j. g (suc j)) n k
 
-pub good-set : (s : Registers) (r : ℕ) (v : Value) → Good s → GoodValue v → Good (record { cells = set (s .cells) r (record { value = v }) })
-good-set s r v g n = record { values = values-set (s .cells) r v (g .values) n }
+module _ (s t : Registers) (r : ℕ) (v : Value) (e : t .cells ≡ set (s .cells) r (holding v)) where
+  pub set-cells : cellsOfRegisters t ≡ set (cellsOfRegisters s) r (valueCell v)
+  set-cells = rw e (cells-set (s .cells) r v)
+
+  pub set-good : Good s → GoodValue v → Good t
+  set-good g n = record { values = rw e (values-set (s .cells) r v (g .values) n) }
 
 -- good registers' words are whole cells
 

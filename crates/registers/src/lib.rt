@@ -8,8 +8,7 @@ ghost use Prim.Native.Nat.{_<_};
 ghost use lib.ListN.{getD, replicate, set};
 ghost use Rattle.model.specs.Records.{blank, cellWords, wholeCells};
 ghost use Rattle.model.specs.Calls.{cellsIn};
-ghost use Rattle.value.specs.Value.{valueCell};
-ghost use Rattle.registers.specs.Cells.{cellsOfRegisters, GoodValue, Good};
+ghost use Rattle.registers.specs.Cells.{holding, unset, cellsOfRegisters, Good};
 
 // A struct's array may hold structs, and no enums: so each value stands in a struct.
 pub struct Register {
@@ -36,8 +35,7 @@ impl Registers {
 
     pub fn get(self, r: usize) -> Value
         requires { ⌜ r < 16 ⌝ }
-        ensures cell { λ v. ⌜ valueCell v ≡ getD (cellsOfRegisters self) r blank ⌝ }
-        ensures good { λ v. ⌜ (Good self → GoodValue v) ⌝ }
+        ensures { λ v. ⌜ v ≡ getD (self .cells) r unset .value ⌝ }
     {
         let x = self.cells[r];
         let v = x.value;
@@ -46,8 +44,7 @@ impl Registers {
 
     pub fn set(mut self, r: usize, v: Value) -> Self
         requires { ⌜ r < 16 ⌝ }
-        ensures cells { λ s. ⌜ cellsOfRegisters s ≡ set (cellsOfRegisters self) r (valueCell v) ⌝ }
-        ensures good { λ s. ⌜ (Good self → GoodValue v → Good s) ⌝ }
+        ensures { λ s. ⌜ s .cells ≡ set (self .cells) r (holding v) ⌝ }
     {
         let x = Register { value: v };
         self.cells[r] = x;

@@ -16,6 +16,9 @@ refused-requires c κs = search needs
 enum-known-command : tie.Need-enum-known-command
 enum-known-command c = search needs
 
+cast-alloc-in : tie.Need-cast-alloc-in
+cast-alloc-in c = search needs
+
 alloc-in-requires : tie.Need-alloc-in-requires
 unfolding registersOf
 alloc-in-requires c κs =
@@ -25,6 +28,12 @@ alloc-in-requires c κs =
 
 enum-known-command-2 : tie.Need-enum-known-command-2
 enum-known-command-2 c = search needs
+
+cast-set-register : tie.Need-cast-set-register
+cast-set-register c = search needs
+
+cast-set-register-2 : tie.Need-cast-set-register-2
+cast-set-register-2 c = search needs
 
 set-register-requires : tie.Need-set-register-requires
 unfolding registersOf
@@ -36,6 +45,12 @@ set-register-requires c κs =
 enum-known-command-3 : tie.Need-enum-known-command-3
 enum-known-command-3 c = search needs
 
+cast-load-in : tie.Need-cast-load-in
+cast-load-in c = search needs
+
+cast-load-in-2 : tie.Need-cast-load-in-2
+cast-load-in-2 c = search needs
+
 load-in-requires : tie.Need-load-in-requires
 unfolding registersOf
 load-in-requires c κs =
@@ -46,6 +61,12 @@ load-in-requires c κs =
 
 enum-known-command-4 : tie.Need-enum-known-command-4
 enum-known-command-4 c = search needs
+
+cast-store-in : tie.Need-cast-store-in
+cast-store-in c = search needs
+
+cast-store-in-2 : tie.Need-cast-store-in-2
+cast-store-in-2 c = search needs
 
 store-in-requires : tie.Need-store-in-requires
 unfolding registersOf
@@ -63,6 +84,9 @@ report-in-requires c κs = search needs
 
 enum-known-command-5 : tie.Need-enum-known-command-5
 enum-known-command-5 c = search needs
+
+cast-take-figure : tie.Need-cast-take-figure
+cast-take-figure c = search needs
 
 take-figure-requires : tie.Need-take-figure-requires
 unfolding registersOf
@@ -123,16 +147,24 @@ act-spec =
     enum-told
     refused-requires
     enum-known-command
+    cast-alloc-in
     alloc-in-requires
     enum-known-command-2
+    cast-set-register
+    cast-set-register-2
     set-register-requires
     enum-known-command-3
+    cast-load-in
+    cast-load-in-2
     load-in-requires
     enum-known-command-4
+    cast-store-in
+    cast-store-in-2
     store-in-requires
     enum-told-2
     report-in-requires
     enum-known-command-5
+    cast-take-figure
     take-figure-requires
     returns
     same-length

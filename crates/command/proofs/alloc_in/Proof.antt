@@ -2,7 +2,7 @@ use native.Mathlib.Omega.{arith}
 use lib.ListN.{length}
 use mir.Syntax.{w64}
 use mir.ValLaws.{toZ-ofZ}
-use Rattle.command.proofs.Allocating.{alloc-heapless, Lent, alloc-refused, roots-whole, pointer-good, alloc-acts}
+use Rattle.command.proofs.Allocating.{alloc-heapless, Lent, alloc-refused, roots-whole, alloc-acts}
 use borrow.Author.Needs.{needs}
 use Rattle.command.proofs.alloc_in.Statement.{statement}
 use Rattle.command.proofs.alloc_in.Tie as tie
@@ -62,8 +62,7 @@ returns-2 c =
     let asked = rw (toZ-ofZ w64 (s .args .amount) (s .fits .amount)) at (c .before .before .before .before .before .before .before .before .before .before .before .alloc-formed .ensures) in
     let at = c .before .before .before .before .a .given .1 in
     -- the walk tells of the answer's fields that the offset is an i64
-    alloc-acts (lent w) _ _ _ _ asked at (c .before .from-words .result) (c .set .result) _ (c .before .from-words .ensures .0) (c .set .ensures .0)
-    (c .set .ensures .1 (c .before .from-words .ensures .1) (pointer-good (lent w) _ _ _ _ asked at (record { sfits = c .before .before .before .known-told .given .0 .1 .1 .0 .1 .1 .1 .1 .0 .1 })))
+    alloc-acts (lent w) _ _ _ _ asked at (c .before .from-words .result) (c .set .result) _ (c .before .from-words .ensures .0) (c .before .from-words .ensures .1) (record { sfits = c .before .before .before .known-told .given .0 .1 .1 .0 .1 .1 .1 .1 .0 .1 }) (c .set .ensures)
 
 same-length-3 : tie.Need-same-length-3
 same-length-3 c = search needs

@@ -69,7 +69,7 @@ returns-2 c =
     let p = r .before .before in
     let t = p .before .before in
     let s = start t in
-    load-done _ _ _ (s .pre .0) (s .pre .1 .2) (there t) (t .before .get .result) (t .before .get .ensures .0) (t .target-of .result) (aim t) (p .p .given .1) (r .read-formed .result) (r .read-formed .ensures) (c .before .before .v .given .1) (c .loaded .ensures)
+    load-done _ _ _ (s .pre .0) (s .pre .1 .2) (there t) (t .before .get .result) (t .before .get .ensures) (t .target-of .result) (aim t) (p .p .given .1) (r .read-formed .result) (r .read-formed .ensures) (c .before .before .v .given .1) (c .loaded .ensures)
 
 returns-3 : tie.Need-returns-3
 returns-3 c =
@@ -77,13 +77,13 @@ returns-3 c =
     let p = r .before .before in
     let t = p .before .before in
     let s = start t in
-    load-refused _ _ _ (s .pre .0) (s .pre .1 .2) (there t) (t .before .get .result) (t .before .get .ensures .0) (t .target-of .result) (aim t) (p .p .given .1) (r .read-formed .result) (r .read-formed .ensures) (c .before .before .q .given .1) (c .refused2 .ensures)
+    load-refused _ _ _ (s .pre .0) (s .pre .1 .2) (there t) (t .before .get .result) (t .before .get .ensures) (t .target-of .result) (aim t) (p .p .given .1) (r .read-formed .result) (r .read-formed .ensures) (c .before .before .q .given .1) (c .refused2 .ensures)
 
 returns-4 : tie.Need-returns-4
 returns-4 c =
     let t = c .before .before .before .before in
     let s = start t in
-    load-nowhere _ _ _ (s .pre .0) (s .pre .1 .2) (there t) (t .before .get .result) (t .before .get .ensures .0) (t .target-of .result) (aim t) (c .before .before .q2 .given .1) (c .refused3 .ensures)
+    load-nowhere _ _ _ (s .pre .0) (s .pre .1 .2) (there t) (t .before .get .result) (t .before .get .ensures) (t .target-of .result) (aim t) (c .before .before .q2 .given .1) (c .refused3 .ensures)
 
 pub load-in-spec : {M : Type 1} → statement M
 load-in-spec =

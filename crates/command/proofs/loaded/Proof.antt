@@ -1,10 +1,11 @@
 use borrow.Author.Needs.{needs}
-use mathlib.Core.Path.{refl, sym, ap, _∙_}
+use mathlib.Core.Path.{sym, ap, _∙_}
 use lib.ListN.{set as put}
+use Rattle.model.specs.Run.{loadLine}
 use Rattle.value.specs.Value.{valueCell}
 use Rattle.access.proofs.Cells.{read-valid, read-cell}
 use Rattle.registers.specs.Cells.{cellsOfRegisters}
-use Rattle.registers.proofs.Values.{spelled-good}
+use Rattle.registers.proofs.Values.{spelled-good, set-cells, set-good}
 use Rattle.command.proofs.loaded.Statement.{statement}
 use Rattle.command.proofs.loaded.Tie as tie
 
@@ -23,7 +24,14 @@ returns c =
     let words = sym (c .before .before .encode .ensures) in
     let x = c .before .value-of in
     let cell = valueCell (s .args .v) in
-    (refl, c .set .ensures .0 ∙ ap (put (cellsOfRegisters (s .args .registers)) (s .args .register)) (x .ensures .cell ∙ read-cell cell words (s .pre .1)), c .set .ensures .1 (s .pre .0 .1) (spelled-good _ _ _ (x .result) (read-valid cell words (s .pre .1)) (x .ensures)))
+    let same = x .ensures .cell ∙ read-cell cell words (s .pre .1) in
+    let good = spelled-good _ _ _ (x .result) (read-valid cell words (s .pre .1)) (x .ensures) in
+    record {
+      line = ap loadLine same;
+      whole = good;
+      cells = set-cells (s .args .registers) (c .set .result) (s .args .register) (x .result) (c .set .ensures) ∙ ap (put (cellsOfRegisters (s .args .registers)) (s .args .register)) same;
+      good = set-good (s .args .registers) (c .set .result) (s .args .register) (x .result) (c .set .ensures) (s .pre .0 .1) good;
+    }
 
 pub loaded-spec : {M : Type 1} → statement M
 loaded-spec = tie.close (tie.spec encode-requires value-of-requires set-requires returns)

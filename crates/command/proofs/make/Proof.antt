@@ -1,4 +1,6 @@
 use mathlib.Core.Path.{sym}
+use Prim.Native.Nat.{_≤_}
+use lib.ListN.{length}
 use lib.Seq.{length-take-le}
 use Rattle.image.proofs.Bounds.{said-no, said-yes}
 use Rattle.command.proofs.Making.{make-refused, make-fits, make-always, make-done}
@@ -10,16 +12,20 @@ is-bounded-requires : tie.Need-is-bounded-requires
 is-bounded-requires c κs = search needs
 
 returns : tie.Need-returns
-returns c = make-refused _ _ (c .before .before .before .pre .1) (said-no (c .before .is-bounded .ensures) (c .if1 .taken))
+returns c = make-refused _ _ (said-no (c .before .is-bounded .ensures) (c .if1 .taken))
 
 words-requires : tie.Need-words-requires
 words-requires c κs = search needs
 
+-- the words fit
+fits : (c : tie.After-words) → c .words .result ≤ length (c .before .before .before .before .args .buffer .now)
+fits c = make-fits (c .before .before .before .before .args .buffer .now) _ (c .before .before .before .before .pre) (said-yes (c .before .before .is-bounded .ensures) (c .before .if1 .left)) (c .words .ensures)
+
 slice-relend-prefix-fresh : tie.Need-slice-relend-prefix-fresh
-slice-relend-prefix-fresh c = make-fits (c .before .before .before .before .args .buffer .now) _ (c .before .before .before .before .pre .1) (c .before .before .before .before .pre .0) (said-yes (c .before .before .is-bounded .ensures) (c .before .if1 .left)) (c .words .ensures)
+slice-relend-prefix-fresh c = fits c
 
 slice-aggregate-fresh : tie.Need-slice-aggregate-fresh
-slice-aggregate-fresh c = sym (length-take-le _ _ (make-fits (c .before .before .before .before .before .args .buffer .now) _ (c .before .before .before .before .before .pre .1) (c .before .before .before .before .before .pre .0) (said-yes (c .before .before .before .is-bounded .ensures) (c .before .before .if1 .left)) (c .before .words .ensures)))
+slice-aggregate-fresh c = sym (length-take-le _ _ (fits (c .before)))
 
 fresh-requires : tie.Need-fresh-requires
 fresh-requires c κs = search needs
@@ -34,13 +40,21 @@ same-length : tie.Need-same-length
 same-length c = search needs
 
 returns-2 : tie.Need-returns-2
-returns-2 c = make-done _ _ (c .before .before .before .before .before .before .before .before .before .before .pre .1) (c .before .before .before .before .before .before .before .before .before .before .pre .0) (said-yes (c .before .before .before .before .before .before .before .before .is-bounded .ensures) (c .before .before .before .before .before .before .before .if1 .left)) (c .before .before .before .before .before .before .words .ensures) _ _ (c .before .before .before .before .fresh .ensures) (c .enum-told .given .1)
+returns-2 c =
+    let f = c .before .before .before .before in
+    let w = f .before .before in
+    let b = w .before .before in
+    make-done _ _ (b .before .before .pre) (said-yes (b .is-bounded .ensures) (w .before .if1 .left)) (w .words .ensures) _ _ (f .fresh .ensures) (c .enum-told .given .1)
 
 same-length-2 : tie.Need-same-length-2
 same-length-2 c = search needs
 
 returns-3 : tie.Need-returns-3
-returns-3 c = absurd (make-always _ _ (c .before .before .before .before .before .before .before .before .before .before .before .pre .1) (c .before .before .before .before .before .before .before .before .before .before .before .pre .0) (said-yes (c .before .before .before .before .before .before .before .before .before .is-bounded .ensures) (c .before .before .before .before .before .before .before .before .if1 .left)) (c .before .before .before .before .before .before .before .words .ensures) _ _ (c .before .before .before .before .before .fresh .ensures) (c .before .q .given .1))
+returns-3 c =
+    let f = c .before .before .before .before .before in
+    let w = f .before .before in
+    let b = w .before .before in
+    absurd (make-always _ _ (b .before .before .pre) (said-yes (b .is-bounded .ensures) (w .before .if1 .left)) (w .words .ensures) _ _ (f .fresh .ensures) (c .before .q .given .1))
 
 pub make-spec : {M : Type 1} → statement M
 make-spec =

@@ -23,7 +23,7 @@ set-requires c κs = search needs
 returns-2 : tie.Need-returns-2
 returns-2 c w h =
     let v = c .before .before .before in
-    set-done h (v .before .pre .1) (c .before .value-of .result) (sym (v .is-valid .ensures) ∙ not-false _ (c .before .before .if1 .left)) (c .before .value-of .ensures) (c .set .ensures .0) (c .set .ensures .1)
+    set-done h (v .before .pre .1) (c .before .value-of .result) (sym (v .is-valid .ensures) ∙ not-false _ (c .before .before .if1 .left)) (c .before .value-of .ensures) (c .set .ensures)
 
 pub set-register-spec : {M : Type 1} → statement M
 set-register-spec =

@@ -75,7 +75,7 @@ returns-2 c =
     let t = p .before .before in
     let s = start t in
     let u = t .before .before .before .get in
-    store-done _ _ _ (s .pre .0) (s .pre .1 .2) (there t) (t .before .get2 .result) (t .before .get2 .ensures .0) (t .target-of .result) (aim t) (u .result) (u .ensures .0) (u .ensures .1 (s .pre .1 .2)) (p .p .given .1) (t .before .before .encode .ensures) (r .write-formed .result) _ (r .write-formed .ensures) (c .enum-told .given .1)
+    store-done _ _ _ (s .pre .0) (s .pre .1 .2) (there t) (t .before .get2 .result) (t .before .get2 .ensures) (t .target-of .result) (aim t) (u .result) (u .ensures) (p .p .given .1) (t .before .before .encode .ensures) (r .write-formed .result) _ (r .write-formed .ensures) (c .enum-told .given .1)
 
 same-length-2 : tie.Need-same-length-2
 same-length-2 c = search needs
@@ -87,14 +87,14 @@ returns-3 c =
     let t = p .before .before in
     let s = start t in
     let u = t .before .before .before .get in
-    store-refused _ _ _ (s .pre .0) (s .pre .1 .2) (there t) (t .before .get2 .result) (t .before .get2 .ensures .0) (t .target-of .result) (aim t) (u .result) (u .ensures .0) (u .ensures .1 (s .pre .1 .2)) (p .p .given .1) (t .before .before .encode .ensures) (r .write-formed .result) _ (r .write-formed .ensures) (c .before .before .q .given .1) (c .refused2 .ensures)
+    store-refused _ _ _ (s .pre .0) (s .pre .1 .2) (there t) (t .before .get2 .result) (t .before .get2 .ensures) (t .target-of .result) (aim t) (u .result) (u .ensures) (p .p .given .1) (t .before .before .encode .ensures) (r .write-formed .result) _ (r .write-formed .ensures) (c .before .before .q .given .1) (c .refused2 .ensures)
 
 returns-4 : tie.Need-returns-4
 returns-4 c =
     let t = c .before .before .before .before in
     let s = start t in
     let u = t .before .before .before .get in
-    store-nowhere _ _ _ (s .pre .0) (s .pre .1 .2) (there t) (t .before .get2 .result) (t .before .get2 .ensures .0) (t .target-of .result) (aim t) (u .result) (u .ensures .0) (c .before .before .q2 .given .1) (c .refused3 .ensures)
+    store-nowhere _ _ _ (s .pre .0) (s .pre .1 .2) (there t) (t .before .get2 .result) (t .before .get2 .ensures) (t .target-of .result) (aim t) (u .result) (u .ensures) (c .before .before .q2 .given .1) (c .refused3 .ensures)
 
 pub store-in-spec : {M : Type 1} → statement M
 store-in-spec =

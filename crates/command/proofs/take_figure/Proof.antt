@@ -15,7 +15,7 @@ refused-requires c κs = search needs
 returns : tie.Need-returns
 returns c w h =
     let g = c .before .before in
-    figure-other _ h (g .before .pre .1) (g .get .result) (g .get .ensures .0) (c .before .match .keys2) (c .refused .ensures)
+    figure-other _ h (g .before .pre .1) (g .get .result) (g .get .ensures) (c .before .match .keys2) (c .refused .ensures)
 
 figure-of-requires : tie.Need-figure-of-requires
 figure-of-requires c κs = search needs
@@ -35,7 +35,7 @@ returns-2 c w h =
     let v = f .before .before in
     let g = v .before .before in
     let good = g .before .pre .1 in
-    figure-done _ h good (g .get .result) (g .get .ensures .0) (v .v .given .1) (g .get .ensures .1 good .whole) (f .figure-of .result) (f .figure-of .ensures) (c .before .f .given .1)
+    figure-done _ h good (g .get .result) (g .get .ensures) (v .v .given .1) (f .figure-of .result) (f .figure-of .ensures) (c .before .f .given .1)
 
 returns-3 : tie.Need-returns-3
 returns-3 c w h =
@@ -43,7 +43,7 @@ returns-3 c w h =
     let v = f .before .before in
     let g = v .before .before in
     let good = g .before .pre .1 in
-    figure-refused _ h good (g .get .result) (g .get .ensures .0) (v .v .given .1) (g .get .ensures .1 good .whole) (f .figure-of .result) (f .figure-of .ensures) (c .before .before .q .given .1) (c .refused2 .ensures)
+    figure-refused _ h good (g .get .result) (g .get .ensures) (v .v .given .1) (f .figure-of .result) (f .figure-of .ensures) (c .before .before .q .given .1) (c .refused2 .ensures)
 
 pub take-figure-spec : {M : Type 1} → statement M
 take-figure-spec =

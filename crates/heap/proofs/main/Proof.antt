@@ -1,5 +1,7 @@
 use mathlib.Core.Path.{sym}
+use native.Mathlib.Omega.{arith}
 use lib.Seq.{length-take-le}
+use Rattle.model.specs.Listing.{longestFile}
 use borrow.Author.Needs.{needs}
 use Rattle.heap.proofs.main.Statement.{statement}
 use Rattle.heap.proofs.main.Tie as tie
@@ -8,6 +10,7 @@ slice-aggregate-read-all : tie.Need-slice-aggregate-read-all
 slice-aggregate-read-all c = search needs
 
 read-all-requires : tie.Need-read-all-requires
+unfolding longestFile
 read-all-requires c κs = search needs
 
 slice-aggregate-fail : tie.Need-slice-aggregate-fail
@@ -26,7 +29,8 @@ slice-aggregate-print-all : tie.Need-slice-aggregate-print-all
 slice-aggregate-print-all c = sym (length-take-le _ _ (c .before .before .before .before .read-all .ensures))
 
 print-all-requires : tie.Need-print-all-requires
-print-all-requires c κs = search needs
+unfolding longestFile
+print-all-requires c κs = let call = c .before .before .before .before .read-all in omega (arith, call .ensures, call .kept .0, length-take-le (call .result .len) (call .last .0) (call .ensures))
 
 slice-aggregate-fail-2 : tie.Need-slice-aggregate-fail-2
 slice-aggregate-fail-2 c = search needs

@@ -6,9 +6,8 @@ use mir.Syntax.{w64}
 use mir.Val.{toZ, ofZ}
 use mir.ValLaws.{toZ-ofZ}
 use borrow.Author.Needs.{needs}
-use Rattle.model.specs.Listing.{allocWord}
+use Rattle.model.specs.Listing.{allocWord, lineText}
 use Rattle.figure.proofs.Writes.{wrote-both}
-use Rattle.lines.specs.Answers.{allocText}
 use Rattle.lines.proofs.Loops.{spaced-length}
 use Rattle.lines.proofs.Lengths.{signed-length}
 use Rattle.lines.proofs.alloc_text.Statement.{statement}
@@ -56,7 +55,7 @@ same-length : tie.Need-same-length
 same-length c = search needs
 
 returns : tie.Need-returns
-unfolding allocText allocWord
+unfolding lineText allocWord
 returns c =
     let counts = c .before .before in
     let number = counts .before .before .before .before .before in

@@ -1,7 +1,6 @@
 use borrow.Author.Needs.{needs}
-use Rattle.model.specs.Listing.{figureWord}
+use Rattle.model.specs.Listing.{figureWord, lineText}
 use Rattle.figure.proofs.Writes.{wrote-both}
-use Rattle.lines.specs.Answers.{figureLine}
 use Rattle.lines.proofs.figure_text.Statement.{statement}
 use Rattle.lines.proofs.figure_text.Tie as tie
 
@@ -21,7 +20,7 @@ same-length : tie.Need-same-length
 same-length c = search needs
 
 returns : tie.Need-returns
-unfolding figureLine figureWord
+unfolding lineText figureWord
 returns c =
     let number = c .before .before in
     let space = number .before .before .before .before in

@@ -1,7 +1,6 @@
 use borrow.Author.Needs.{needs}
-use Rattle.model.specs.Listing.{loadWord}
+use Rattle.model.specs.Listing.{loadWord, lineText}
 use Rattle.figure.proofs.Writes.{wrote-both}
-use Rattle.lines.specs.Answers.{loadText}
 use Rattle.lines.proofs.load_text.Statement.{statement}
 use Rattle.lines.proofs.load_text.Tie as tie
 
@@ -24,7 +23,7 @@ same-length : tie.Need-same-length
 same-length c = search needs
 
 returns : tie.Need-returns
-unfolding loadText loadWord
+unfolding lineText loadWord
 returns c =
     let rest = c .before .before in
     let name = rest .before .before .before .before .before in

@@ -1,5 +1,5 @@
 use borrow.Author.Needs.{needs}
-use Rattle.model.specs.Listing.{noWord, refusal}
+use Rattle.model.specs.Listing.{noWord, lineText}
 use Rattle.figure.proofs.Writes.{wrote-both}
 use Rattle.lines.proofs.refusal_text.Statement.{statement}
 use Rattle.lines.proofs.refusal_text.Tie as tie
@@ -17,7 +17,7 @@ same-length : tie.Need-same-length
 same-length c = search needs
 
 returns : tie.Need-returns
-unfolding refusal noWord
+unfolding lineText noWord
 returns c = let number = c .before .before in wrote-both (number .before .before .before .before .word .ensures) (number .spaced .ensures)
 
 pub refusal-text-spec : {M : Type 1} → statement M

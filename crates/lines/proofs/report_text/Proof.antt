@@ -1,7 +1,6 @@
 use borrow.Author.Needs.{needs}
-use Rattle.model.specs.Listing.{reportWord}
+use Rattle.model.specs.Listing.{reportWord, lineText}
 use Rattle.figure.proofs.Writes.{wrote-both}
-use Rattle.lines.specs.Answers.{reportText}
 use Rattle.lines.proofs.report_text.Statement.{statement}
 use Rattle.lines.proofs.report_text.Tie as tie
 
@@ -24,7 +23,7 @@ same-length : tie.Need-same-length
 same-length c = search needs
 
 returns : tie.Need-returns
-unfolding reportText reportWord
+unfolding lineText reportWord
 returns c =
     let rest = c .before .before in
     let name = rest .before .before .before .before .before in

@@ -1,6 +1,5 @@
 use borrow.Author.Needs.{needs}
-use Rattle.model.specs.Listing.{newWord, setWord, storeWord}
-use Rattle.lines.specs.Answers.{answerText}
+use Rattle.model.specs.Listing.{newWord, setWord, storeWord, lineText}
 use Rattle.lines.proofs.text.Statement.{statement}
 use Rattle.lines.proofs.text.Tie as tie
 
@@ -65,56 +64,51 @@ same-length : tie.Need-same-length
 same-length c = search needs
 
 returns : tie.Need-returns
-unfolding answerText newWord
+unfolding lineText newWord
 returns c = rw (c .before .before .before .before .before .enum-told .given .1) (c .before .before .word .ensures)
 
 same-length-2 : tie.Need-same-length-2
 same-length-2 c = search needs
 
 returns-2 : tie.Need-returns-2
-unfolding answerText
 returns-2 c = rw (c .before .before .before .before .before .answer .given .1) (c .before .before .alloc-text .ensures)
 
 same-length-3 : tie.Need-same-length-3
 same-length-3 c = search needs
 
 returns-3 : tie.Need-returns-3
-unfolding answerText setWord
+unfolding lineText setWord
 returns-3 c = rw (c .before .before .before .before .before .enum-told2 .given .1) (c .before .before .word2 .ensures)
 
 same-length-4 : tie.Need-same-length-4
 same-length-4 c = search needs
 
 returns-4 : tie.Need-returns-4
-unfolding answerText
 returns-4 c = rw (c .before .before .before .before .before .answer2 .given .1) (c .before .before .load-text .ensures)
 
 same-length-5 : tie.Need-same-length-5
 same-length-5 c = search needs
 
 returns-5 : tie.Need-returns-5
-unfolding answerText storeWord
+unfolding lineText storeWord
 returns-5 c = rw (c .before .before .before .before .before .enum-told3 .given .1) (c .before .before .word3 .ensures)
 
 same-length-6 : tie.Need-same-length-6
 same-length-6 c = search needs
 
 returns-6 : tie.Need-returns-6
-unfolding answerText
 returns-6 c = rw (c .before .before .before .before .before .answer3 .given .1) (c .before .before .report-text .ensures)
 
 same-length-7 : tie.Need-same-length-7
 same-length-7 c = search needs
 
 returns-7 : tie.Need-returns-7
-unfolding answerText
 returns-7 c = rw (c .before .before .before .before .before .answer4 .given .1) (c .before .before .figure-text .ensures)
 
 same-length-8 : tie.Need-same-length-8
 same-length-8 c = search needs
 
 returns-8 : tie.Need-returns-8
-unfolding answerText
 returns-8 c = rw (c .before .before .before .before .before .answer5 .given .1) (c .before .before .refusal-text .ensures)
 
 pub text-spec : {M : Type 1} → statement M

@@ -1,5 +1,4 @@
 use borrow.Author.Needs.{needs}
-use Rattle.lines.specs.Answers.{answerText}
 use Rattle.listing.proofs.Standing.{registers-below-16}
 use Rattle.listing.proofs.Advancing.{advance-command, advance-malformed}
 use Rattle.listing.proofs.advance.Statement.{statement}
@@ -48,7 +47,6 @@ same-length-4 : tie.Need-same-length-4
 same-length-4 c = search needs
 
 returns-2 : tie.Need-returns-2
-unfolding answerText
 returns-2 c =
     let arm = c .before .before .before .before in
     let call = arm .before in

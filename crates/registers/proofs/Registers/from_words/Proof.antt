@@ -71,7 +71,7 @@ loop-again : tie.Need-loop-again Inv-loop μ-loop
 loop-again c =
     let turn = c .before .before .before in
     let r = c .set in
-    loaded-more _ (long (turn .before .before)) (turn .loop .inv) (c .before .before .loop-test .taken) (c .before .value-of .ensures) (r .result) (r .ensures .0) (r .ensures .1)
+    loaded-more _ (long (turn .before .before)) (turn .loop .inv) (c .before .before .loop-test .taken) (c .before .value-of .ensures) (r .result) (r .ensures)
 
 returns : tie.Need-returns Inv-loop μ-loop
 returns c = (loaded-all _ (long (c .before .before .before)) (c .before .loop .inv) (c .loop-test .left), c .before .loop .inv .good)

@@ -1,5 +1,5 @@
 use borrow.Author.Needs.{needs}
-use Rattle.registers.proofs.Values.{cells-set, good-set}
+use mathlib.Core.Path.{refl}
 use Rattle.registers.proofs.Registers.set.Statement.{statement}
 use Rattle.registers.proofs.Registers.set.Tie as tie
 
@@ -10,9 +10,7 @@ element-set-from-x : tie.Need-element-set-from-x
 element-set-from-x c = search needs
 
 returns : tie.Need-returns
-returns c =
-    let a = c .args in
-    (cells-set (a .t1 .cells) (a .r) (a .v), good-set (a .t1) (a .r) (a .v))
+returns c = refl
 
 pub set-spec : {M : Type 1} → statement M
 set-spec = tie.close (tie.spec mul-x element-set-from-x returns)

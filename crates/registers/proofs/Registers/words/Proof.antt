@@ -3,7 +3,7 @@ use mathlib.Core.Path.{_≡_}
 use Prim.Native.Nat.{_-_}
 use lib.ListN.{length}
 use Rattle.registers.specs.Cells.{cellsOfRegisters}
-use Rattle.registers.proofs.Values.{same-length, good-whole}
+use Rattle.registers.proofs.Values.{same-length, got-cell, good-whole}
 use Rattle.registers.proofs.Roots.{Written, written-none, written-more, written-all}
 use Rattle.registers.proofs.Registers.words.Statement.{statement}
 use Rattle.registers.proofs.Registers.words.Tie as tie
@@ -67,7 +67,9 @@ loop-less : tie.Need-loop-less Inv-loop μ-loop
 loop-less c = search needs
 
 loop-again : tie.Need-loop-again Inv-loop μ-loop
-loop-again c = written-more (long (c .before .before .before .before)) (c .before .before .before .loop .inv) (c .before .before .loop-test .taken) (c .before .get .ensures .0) (c .encode .ensures)
+loop-again c =
+    let turn = c .before .before .before in
+    written-more (long (turn .before)) (turn .loop .inv) (c .before .before .loop-test .taken) (got-cell (turn .before .args .self) (turn .loop .i) (c .before .get .ensures)) (c .encode .ensures)
 
 returns : tie.Need-returns Inv-loop μ-loop
 returns c =
