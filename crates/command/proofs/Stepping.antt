@@ -27,7 +27,7 @@ use Rattle.figure.specs.Answer.{figuredAnswer}
 use Rattle.figure.specs.declared.Figure.{Figure}
 use Rattle.figure.specs.declared.Figured.{Figured}
 use Rattle.figure.specs.declared.Figured.the-variants as figured
-use Rattle.access.specs.Access.{pointerOf, loadedCell, storedOutcome}
+use Rattle.access.specs.Access.{pointerOf, loadedCell, Loads, storedOutcome}
 use Rattle.access.specs.declared.Loaded.{Loaded}
 use Rattle.access.specs.declared.Loaded.the-variants as loaded
 use Rattle.access.specs.declared.Stored.{Stored}
@@ -38,7 +38,7 @@ use Rattle.registers.proofs.Values.{spelled-good, got-cell, got-good, set-cells
 use Rattle.command.specs.declared.answers.Answer.{Answer}
 use Rattle.command.specs.declared.answers.Answer.the-variants as answer
 use Rattle.command.specs.State.{heapIn, stateOf, Held}
-use Rattle.command.specs.Steps.{targetAnswer, targetIn, Loads, Acts}
+use Rattle.command.specs.Steps.{targetAnswer, targetIn, Acts}
 use Rattle.command.specs.declared.Target.{Target}
 use Rattle.command.specs.declared.Target.the-variants as target
 use Rattle.command.proofs.Heaps.{no-heap, the-heap, refuses, answers}
@@ -110,9 +110,14 @@ module _ (w : List ℕ) (r : Registers) where
 
 -- load
 
-pub loaded-valid : {w : List ℕ} → Held w → 0 < length w → (p : Ptr) (x : Loaded) (u : Value) → loadedCell x ≡ read (decode w) p → x ≡ loaded.Value u → valid (valueCell u) ≡ true
-unfolding loadedCell
-loaded-valid {w} h l p x u m f = holds-at (read-fit (decode w) p (h .formed l .fit)) (sym m ∙ ap loadedCell f)
+module _ {w : List ℕ} (h : Held w) (l : 0 < length w) (p : Ptr) {x : Loaded} (m : Loads (read (decode w) p) x) {u : Value} (f : x ≡ loaded.Value u) where
+  loaded-good : GoodValue u
+  unfolding loadedCell
+  loaded-good = record {
+    cell = holds-at (read-fit (decode w) p (h .formed l .fit)) (sym (m .cell) ∙ ap loadedCell f);
+    whole = rw f at (m .whole);
+    ranged = rw f at (m .ranged);
+  }
 
 -- what is answered of a cell that was read
 abbrev putIn : List ℕ → Registers → ℕ → Cell → Res (Line × ModelState)
@@ -131,17 +136,19 @@ module _ {w : List ℕ} {r : Registers} (k p d : ℕ) (h : Held w) (g : Good r) 
     pub load-nowhere : {q : ℕ} {a : Answer} {s : Registers} → t ≡ target.Refused q → (a ≡ answer.Refused q) × (s ≡ r) → Acts (load k p d) w r a w s
     load-nowhere f = refuses h g (rw (load-is, f))
 
-    module _ {y : Pointer} (aim : t ≡ target.Is y) (x : Loaded) (m : loadedCell x ≡ read (decode w) (pointerOf y)) where
+    module _ {y : Pointer} (aim : t ≡ target.Is y) (x : Loaded) (m : Loads (read (decode w) (pointerOf y)) x) where
       load-reads : step (load k p d) (stateOf w r) ≡ (loadedCell x >>= putIn w r k)
-      load-reads = rw (load-is, aim, ← m)
+      load-reads = rw (load-is, aim, ← (m .cell))
 
       pub load-refused : {q : ℕ} {a : Answer} {s : Registers} → x ≡ loaded.Refused q → (a ≡ answer.Refused q) × (s ≡ r) → Acts (load k p d) w r a w s
       unfolding loadedCell
       load-refused f = refuses h g (rw (load-reads, f))
 
-      pub load-done : {u : Value} {a : Answer} {s : Registers} → x ≡ loaded.Value u → Loads r k (valueCell u) a s → Acts (load k p d) w r a w s
+      pub load-done : {u : Value} {a : Answer} {s : Registers} → x ≡ loaded.Value u → (a ≡ answer.Load u) × (s .cells ≡ put (r .cells) k (holding u)) → Acts (load k p d) w r a w s
       unfolding loadedCell stateOf
-      load-done f n = answers (rw (load-reads, f, n .line, n .cells)) (n .whole) h (n .good)
+      load-done {u} {s = s} f (is, now) =
+          let good = loaded-good h l (pointerOf y) m f in
+          rw is (answers (rw (load-reads, f, set-cells r s k u now)) good h (set-good r s k u now g good))
 
 -- store
 

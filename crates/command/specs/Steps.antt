@@ -3,14 +3,13 @@ use mathlib.Core.Path.{_≡_}
 use mathlib.Core.Bool.{Bool, true, false}
 use mathlib.Core.List.{List}
 use Prim.Native.Nat.{ℕ}
-use lib.ListN.{set as put}
 use Rattle.model.specs.Res.{Res, ok, refuse, _>>=_}
 use Rattle.model.specs.Records.{Ptr, Cell}
 use Rattle.model.specs.Command.{Command, new, alloc, set, load, store, report, figure}
-use Rattle.model.specs.Run.{loadLine, pointerIn, added, step, stepped}
+use Rattle.model.specs.Run.{pointerIn, added, step, stepped}
 use Rattle.access.specs.Access.{pointerOf}
 use Rattle.registers.specs.declared.Registers.{Registers}
-use Rattle.registers.specs.Cells.{cellsOfRegisters, Good}
+use Rattle.registers.specs.Cells.{Good}
 use Rattle.command.specs.declared.answers.Answer.{Answer}
 use Rattle.command.specs.declared.State.{State}
 use Rattle.command.specs.declared.Target.{Target}
@@ -34,13 +33,6 @@ isNew (load r p d) = false
 isNew (store r p d) = false
 isNew report = false
 isNew (figure r) = false
-
--- a cell's value is answered and stands in a register
-pub record Loads (r : Registers) (k : ℕ) (c : Cell) (a : Answer) (r′ : Registers) : Type 0 where
-  pub line : answerLine a ≡ loadLine c
-  pub whole : GoodAnswer a
-  pub cells : cellsOfRegisters r′ ≡ put (cellsOfRegisters r) k c
-  pub good : Good r′
 
 -- over the heap's own words
 pub record Acts (c : Command) (w : List ℕ) (r : Registers) (a : Answer) (v : List ℕ) (r′ : Registers) : Type 0 where

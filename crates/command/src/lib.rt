@@ -16,21 +16,20 @@ ghost use mathlib.Core.Path.{_≡_};
 ghost use mathlib.Core.Bool.{true};
 ghost use mathlib.Core.List.{List};
 ghost use Prim.Native.Nat.{ℕ, _<_, _≤_};
-ghost use lib.ListN.{length};
+ghost use lib.ListN.{length, set as put};
 ghost use mir.Syntax.{w64};
 ghost use mir.Val.{ofZ};
 ghost use Rattle.model.specs.Lists.{allAtMost};
-ghost use Rattle.model.specs.Records.{valid};
 ghost use Rattle.model.specs.Command.{new, alloc, set, load, store, report as reportCommand, figure, registersOf};
 ghost use Rattle.model.specs.Run.{programBounds};
 ghost use Rattle.theorems.specs.Program.{programWords, programScratch};
 ghost use Rattle.value.specs.Value.{valueCell};
 ghost use Rattle.image.specs.Places.{sizes};
-ghost use Rattle.registers.specs.Cells.{Good};
+ghost use Rattle.registers.specs.Cells.{holding as registerOf, Good};
 ghost use Rattle.reader.specs.Answer.{modelCommand};
-ghost use Rattle.command.specs.declared.answers.Answer.the-variants.{Refused};
+ghost use Rattle.command.specs.declared.answers.Answer.the-variants.{Load, Refused};
 ghost use Rattle.command.specs.State.{holding, heapless, Held, Ready};
-ghost use Rattle.command.specs.Steps.{targetAnswer, targetIn, isNew, Loads, Acts, Performs};
+ghost use Rattle.command.specs.Steps.{targetAnswer, targetIn, isNew, Acts, Performs};
 
 // The heap's words in a buffer, 0 without a heap; and the registers.
 pub struct State {
@@ -152,17 +151,14 @@ fn target_of(v: Value, offset: i64) -> Target
     })
 }
 
-// The value is made anew from its words, as every register's is.
+// The value goes to answer and register as it was read.
 fn loaded(registers: Registers, register: usize, v: Value) -> Acted
-    requires { ⌜ (register < 16) × Good registers ⌝ }
-    requires { ⌜ valid (valueCell v) ≡ true ⌝ }
-    ensures { λ r. ⌜ Loads registers register (valueCell v) (r .answer) (r .registers) ⌝ }
+    requires { ⌜ register < 16 ⌝ }
+    ensures { λ r. ⌜ (r .answer ≡ Load v) × (r .registers .cells ≡ put (registers .cells) register (registerOf v)) ⌝ }
 {
-    let w = value::encode(v);
-    let x = value::value_of(w.tag, w.payload, w.offset);
     Acted {
-        answer: Answer::Load(x),
-        registers: registers.set(register, x),
+        answer: Answer::Load(v),
+        registers: registers.set(register, v),
     }
 }
 
@@ -227,7 +223,7 @@ fn report_in(image: &mut [u64], registers: Registers) -> Acted
     if image.len() == 0 {
         return refused(14, registers);
     }
-    match report::report_lent(image) {
+    match report::report_lent_formed(image) {
         Reported::Taken(s) => Acted {
             answer: Answer::Report(s),
             registers,

@@ -8,7 +8,7 @@ use mir.Val.{ofZ}
 use mir.ValLaws.{toZ-ofZ}
 use Rattle.value.specs.Value.{valueCell}
 use Rattle.command.specs.Steps.{targetAnswer, targetIn}
-use Rattle.command.proofs.Stepping.{load-heapless, load-nowhere, load-refused, loaded-valid, load-done}
+use Rattle.command.proofs.Stepping.{load-heapless, load-nowhere, load-refused, load-done}
 use Rattle.command.proofs.load_in.Statement.{statement}
 use Rattle.command.proofs.load_in.Tie as tie
 
@@ -45,11 +45,7 @@ enum-known-v : tie.Need-enum-known-v
 enum-known-v c = search needs
 
 loaded-requires : tie.Need-loaded-requires
-loaded-requires c κs =
-    let r = c .before .before .before in
-    let t = r .before .before .before .before in
-    let s = start t in
-    ((s .pre .1 .0, s .pre .1 .2), loaded-valid (s .pre .0) (there t) _ (r .read-formed .result) _ (r .read-formed .ensures) (c .before .v .given .1))
+loaded-requires c κs = search needs
 
 enum-known-q : tie.Need-enum-known-q
 enum-known-q c = search needs

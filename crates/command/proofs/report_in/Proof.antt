@@ -10,8 +10,8 @@ refused-requires c κs = search needs
 returns : tie.Need-returns
 returns c = let s = c .before .before .before in report-heapless (s .pre .0) (s .pre .1) (c .before .if1 .taken) (c .refused .ensures)
 
-report-lent-requires : tie.Need-report-lent-requires
-report-lent-requires c κs = c .before .before .before .pre .0 .formed (omega (arith, c .before .if1 .left))
+report-lent-formed-requires : tie.Need-report-lent-formed-requires
+report-lent-formed-requires c κs = c .before .before .before .pre .0 .formed (omega (arith, c .before .if1 .left))
 
 enum-known-s : tie.Need-enum-known-s
 enum-known-s c = search needs
@@ -28,7 +28,7 @@ same-length c = search needs
 returns-2 : tie.Need-returns-2
 returns-2 c =
     let s = c .before .before .before .before .before .before .before .before .before in
-    report-acts (s .pre .0) (omega (arith, c .before .before .before .before .before .before .before .if1 .left)) (s .pre .1) _ _ (c .before .before .before .before .before .report-lent .ensures) (c .before .s .given .1)
+    report-acts (s .pre .0) (omega (arith, c .before .before .before .before .before .before .before .if1 .left)) (s .pre .1) _ _ (c .before .before .before .before .before .report-lent-formed .ensures) (c .before .s .given .1)
 
 same-length-2 : tie.Need-same-length-2
 same-length-2 c = search needs
@@ -36,7 +36,7 @@ same-length-2 c = search needs
 returns-3 : tie.Need-returns-3
 returns-3 c =
     let s = c .before .before .before .before .before .before .before .before .before .before in
-    report-refused (s .pre .0) (omega (arith, c .before .before .before .before .before .before .before .before .if1 .left)) (s .pre .1) _ _ (c .before .before .before .before .before .before .report-lent .ensures) (c .before .before .q .given .1) (c .refused2 .ensures)
+    report-refused (s .pre .0) (omega (arith, c .before .before .before .before .before .before .before .before .if1 .left)) (s .pre .1) _ _ (c .before .before .before .before .before .before .report-lent-formed .ensures) (c .before .before .q .given .1) (c .refused2 .ensures)
 
 pub report-in-spec : {M : Type 1} → statement M
 report-in-spec =
@@ -44,7 +44,7 @@ report-in-spec =
     (tie.spec
     refused-requires
     returns
-    report-lent-requires
+    report-lent-formed-requires
     enum-known-s
     enum-known-q
     refused-requires-2
