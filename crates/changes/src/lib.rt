@@ -5,7 +5,6 @@ use barrier::Counting;
 use barrier::WriteBarrier;
 use value::Pointer;
 use value::Value;
-ghost use mathlib.Core.Path.{_≡_};
 ghost use Rattle.barrier.specs.Counts.{barrierOf, HandsBack};
 ghost use Rattle.changes.specs.Changes.{times, moveOf, countChange};
 

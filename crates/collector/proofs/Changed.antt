@@ -1,34 +1,27 @@
 -- The cycle, then the change of moved pointers, is the work of an alloc that collects.
 use mathlib.Core.Path.{_≡_, refl, sym, ap, _∙_}
-use mathlib.Core.Bool.{Bool, true, false}
-use mathlib.Core.List.{List, [], _∷_}
-use Prim.Native.Nat.{ℕ, _+_, _*_, _-_, _/_, _^_, _≤_, _<_}
+use mathlib.Core.Bool.{false}
+use mathlib.Core.List.{List}
+use Prim.Native.Nat.{ℕ, _+_, _*_, _-_, _/_, _≤_}
 use native.Mathlib.Omega.{arith}
-use lib.Dec.{leb}
 use lib.ListN.{length, take, drop, length-drop}
 use lib.Seq.{take-all, length-take-le, getD-take}
-use borrow.Author.Tests.{leb-true}
-use Rattle.model.specs.Res.{Res, ok, refuse, _>>=_, each}
-use Rattle.model.specs.Records.{Ptr, Cell, whole, cellWords, wholeCells}
+use Rattle.model.specs.Res.{Res, ok, _>>=_}
 use Rattle.model.specs.Barrier.{Barrier, masks}
-use Rattle.model.specs.Heap.{Nursery, Elder, Sizes, Heap, part}
-use Rattle.model.specs.Image.{imageLength, encode, decode}
-use Rattle.model.specs.Collector.{collectAndAlloc}
-use Rattle.model.specs.Calls.{cellsIn, rootsGood, scratchLength, allocated}
-use Rattle.theorems.specs.Holds.{Holds, such, none}
-use Rattle.theorems.specs.Fit.{Fit, Image}
-use Rattle.theorems.specs.Does.{Meets, Does}
-use Rattle.theorems.specs.Apart.{swapBoth, swapRoots}
+use Rattle.model.specs.Heap.{Sizes, Heap}
+use Rattle.model.specs.Image.{imageLength, decode}
+use Rattle.model.specs.Calls.{cellsIn, scratchLength}
+use Rattle.theorems.specs.Fit.{Image}
+use Rattle.theorems.specs.Does.{Does}
 use Rattle.theorems.proofs.Does.{answered, does-then, does-refused, does-same}
-use Rattle.theorems.proofs.Lists.{and-right}
-use Rattle.theorems.proofs.Res.{bind, holds-at}
+use Rattle.theorems.proofs.Res.{holds-at}
 use Rattle.barrier.specs.Counts.{countingAnswer}
 use Rattle.barrier.specs.declared.Counting.{Counting}
 use Rattle.barrier.specs.declared.Counting.the-variants as counting
 use Rattle.trace.proofs.Entries.{length-tab}
 use Rattle.trace.proofs.Places.{in-length}
 use Rattle.fields.specs.Fields.{Reads}
-use Rattle.pointers.specs.Steps.{movesIn, moveAt, withBoth, changesStep}
+use Rattle.pointers.specs.Steps.{movesIn, moveAt, changesStep}
 use Rattle.cycle.specs.Scratch.{basesAt, oldListAt, partsIn, Front}
 use Rattle.cycle.specs.Turns.{Turn, pushTurn}
 use Rattle.cycle.specs.Outcomes.{Ready, Ran, outcomeAnswer, gaveTurn, keptTo}
@@ -40,12 +33,8 @@ use Rattle.cycle.proofs.Doing.{mapRes, does-map}
 use Rattle.cycle.proofs.Frames.{moves-same}
 use Rattle.cycle.proofs.Lending.{image-long}
 use Rattle.cycle.proofs.Sizes.{Moved, moved-few}
-use Rattle.words.specs.Words.{padded}
 use Rattle.collector.specs.declared.Allocated.the-variants as allocs
-use Rattle.collector.specs.Saving.{SavedTo}
-use Rattle.collector.proofs.Front.{saved-lens, saved-parts, saved-is, put-back}
-use Rattle.collector.proofs.Collecting.{collect-is-work}
-use Rattle.collector.specs.Alloc.{allocOutcome, gaveOutcome, workStep, workOutcome, movesAt, Worked}
+use Rattle.collector.specs.Alloc.{workStep, movesAt, Worked}
 
 -- the moves in scratch, as they are lent: from the list up to the new bases, and from there on
 

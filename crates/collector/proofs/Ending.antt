@@ -1,42 +1,38 @@
 -- `collect_for`: what it asks of its parts, and what they come to.
-use mathlib.Core.Path.{_≡_, refl, sym, ap, _∙_}
-use mathlib.Core.Bool.{Bool, true, false}
+use mathlib.Core.Path.{_≡_, sym, ap, _∙_}
+use mathlib.Core.Bool.{true, false}
 use mathlib.Core.List.{List, [], _∷_}
-use Prim.Native.Nat.{ℕ, _+_, _*_, _-_, _/_, _^_, _≤_, _<_}
+use Prim.Native.Nat.{ℕ, _+_, _*_, _-_, _/_, _≤_, _<_}
 use native.Mathlib.Omega.{arith}
 use lib.Dec.{leb}
-use lib.ListN.{length, take, drop, length-drop}
-use lib.Seq.{take-all, getD-take}
+use lib.ListN.{length, take, drop}
 use borrow.Author.Tests.{leb-true}
 use Rattle.model.specs.Res.{Res, ok, refuse, _>>=_, each}
-use Rattle.model.specs.Records.{Ptr, Cell, whole, cellWords, wholeCells}
-use Rattle.model.specs.Barrier.{Barrier, masks}
-use Rattle.model.specs.Heap.{Nursery, Elder, Sizes, Heap, part}
+use Rattle.model.specs.Records.{Cell, whole, cellWords, wholeCells}
+use Rattle.model.specs.Barrier.{masks}
+use Rattle.model.specs.Heap.{Nursery, Elder, Heap}
 use Rattle.model.specs.Image.{imageLength, encode, decode}
 use Rattle.model.specs.Collector.{collectAndAlloc}
 use Rattle.model.specs.Calls.{cellsIn, rootsGood, scratchLength, allocated}
 use Rattle.theorems.specs.Holds.{Holds, such, none}
 use Rattle.theorems.specs.Fit.{Fit, Image}
-use Rattle.theorems.specs.Does.{Meets, Does}
+use Rattle.theorems.specs.Does.{Meets}
 use Rattle.theorems.specs.Apart.{swapBoth, swapRoots}
-use Rattle.theorems.proofs.Does.{answered, does-then, does-refused, does-same}
+use Rattle.theorems.proofs.Does.{answered}
 use Rattle.theorems.proofs.Lists.{and-left, and-right}
 use Rattle.theorems.proofs.Res.{bind, holds-at}
-use Rattle.barrier.specs.Counts.{countingAnswer}
 use Rattle.barrier.specs.declared.Counting.{Counting}
 use Rattle.barrier.specs.declared.Counting.the-variants as counting
 use Rattle.trace.proofs.Entries.{length-tab}
 use Rattle.trace.proofs.Places.{in-length}
-use Rattle.fields.specs.Fields.{Reads}
 use Rattle.pointers.specs.Steps.{movesIn, moveAt, withBoth, changesStep}
-use Rattle.cycle.specs.Scratch.{basesAt, oldListAt, partsIn, Front}
-use Rattle.cycle.specs.Turns.{Turn, pushTurn}
-use Rattle.cycle.specs.Outcomes.{Ready, Ran, outcomeAnswer, gaveTurn, keptTo}
+use Rattle.cycle.specs.Scratch.{basesAt, partsIn}
+use Rattle.cycle.specs.Turns.{Turn}
+use Rattle.cycle.specs.Outcomes.{Ready, outcomeAnswer, gaveTurn}
 use Rattle.cycle.specs.declared.turns.Request.the-variants.{New}
 use Rattle.cycle.specs.declared.turns.Gave.{Gave}
 use Rattle.cycle.specs.declared.turns.Outcome.{Outcome}
 use Rattle.cycle.specs.declared.turns.Outcome.the-variants.{At, Refused}
-use Rattle.cycle.proofs.Doing.{mapRes, does-map}
 use Rattle.cycle.proofs.Lending.{image-long}
 use Rattle.cycle.proofs.Sizes.{Moved, moved-few}
 use Rattle.words.specs.Words.{padded}

@@ -1,34 +1,29 @@
 -- An alloc whose roots are the registers: 3 and 4 get a yes, and the answer, the image and the roots are those of the step.
 use mathlib.Core.Path.{_≡_, refl, sym, ap, _∙_}
-use mathlib.Core.Bool.{Bool, true, false, _&&_}
+use mathlib.Core.Bool.{true}
 use mathlib.Core.List.{List, [], _∷_}
 use mathlib.Core.Option.{some}
 use Prim.Native.Nat.{ℕ, _-_, _*_, _/_, _≤_, _<_}
 use native.Mathlib.Omega.{arith}
-use lib.Dec.{ltb}
 use lib.ListN.{length, getD, drop, set as put}
 use mir.Syntax.{w64}
 use mir.Val.{SFits}
 use borrow.Author.Tests.{le-leb}
-use Rattle.model.specs.Res.{Res, ok, refuse, _>>=_, each}
-use Rattle.model.specs.Records.{Ptr, Cell, ref, valid, allValid, cellWords, wholeCells, whole}
-use Rattle.model.specs.Heap.{Nursery, Elder, Sizes, Heap}
+use Rattle.model.specs.Res.{Res, ok, refuse, _>>=_}
+use Rattle.model.specs.Records.{Ptr, ref, valid, allValid, cellWords, wholeCells, whole}
 use Rattle.model.specs.Image.{encode, decode}
-use Rattle.model.specs.Barrier.{masks}
-use Rattle.model.specs.Nursery.{bump, survivors, collectYoung}
-use Rattle.model.specs.Elder.{placeNew, moveOne, movesOf}
-use Rattle.model.specs.Collector.{Allocation as ModelAllocation, fourCounts, swapAll, allocAgain, collectAndAlloc, alloc as allocIn}
+use Rattle.model.specs.Collector.{Allocation as ModelAllocation, fourCounts, alloc as allocIn}
 use Rattle.model.specs.Calls.{Outcome, cellsIn, rootsGood, scratchLength, allocOn, allocated}
 use Rattle.model.specs.Command.{alloc}
 use Rattle.model.specs.Run.{holding as holdingState, allocLine, step, stepped}
-use Rattle.theorems.specs.Holds.{Holds, such}
 use Rattle.theorems.specs.Program.{programScratch}
-use Rattle.theorems.proofs.Res.{bind, bind′, asked, holds-at}
+use Rattle.theorems.proofs.Res.{holds-at}
 use Rattle.theorems.proofs.Contents.{all-valid, valid-all}
 use Rattle.theorems.proofs.Cells.{whole-words, words-in}
 use Rattle.theorems.proofs.Collect.{good-heap-fit, Told}
-use Rattle.theorems.proofs.Calls.{stayed, alloc-told}
+use Rattle.theorems.proofs.Calls.{alloc-told, new-valid}
 use Rattle.theorems.proofs.Kept.{fit-good, refused-ok}
+use Rattle.theorems.proofs.Program.{limited-scratch}
 use Rattle.value.specs.declared.Value.the-variants.{Pointer}
 use Rattle.value.specs.Value.{valueCell}
 use Rattle.collector.specs.Alloc.{allocOutcome}
@@ -43,25 +38,7 @@ use Rattle.command.specs.declared.answers.Answer.{Answer}
 use Rattle.command.specs.declared.answers.Answer.the-variants as answer
 use Rattle.command.specs.State.{stateOf, Held}
 use Rattle.command.specs.Steps.{Acts}
-use Rattle.command.proofs.Heaps.{no-heap, the-heap, refuses, limited-scratch, heap-encoded, held-after}
-
--- the new allocation's heap is 0 or 1
-low-heap : (h : Heap) (roots : List Cell) (a : ℕ) → Holds (λ (x : ModelAllocation). ltb (x .ptr .heap) 2 ≡ true) (allocIn h roots a)
-unfolding allocIn collectAndAlloc allocAgain stayed whole
-low-heap h roots a = asked 5 (ltb 0 a && ltb a 0x8000_0000_0000_0000) _ (λ _. go (ltb a (h .size .n - h .young .cursor)))
-  where
-    again : (z : Sizes) (y : Nursery) (e : Elder) (t : Bool) → Holds (λ (g : Ptr × Nursery × Elder). ltb (g .0 .heap) 2 ≡ true) (elim t [ true ↦ ok (whole 0 (y .cursor), bump y a, e) | false ↦ placeNew z a e >>= λ r. ok (whole 1 (r .0), y, r .1) ])
-    again z y e true = such refl
-    again z y e false = bind′ (placeNew z a e) _ (λ r _. such refl)
-
-    go : (t : Bool) → Holds (λ (x : ModelAllocation). ltb (x .ptr .heap) 2 ≡ true) (elim t [ true ↦ ok (stayed h roots a) | false ↦ collectAndAlloc h roots a ])
-    go true = such refl
-    go false =
-        bind′ (collectYoung (h .young) roots (masks (h .old .bar))) _ (λ c _.
-        bind′ (each (moveOne (h .size) (h .young) roots (masks (h .young .bar))) (survivors (c .0)) (record { elder = h .old; steps = [] })) _ (λ v _.
-        bind _ (again (h .size) (c .1) (v .elder) (ltb a (h .size .n - c .1 .cursor))) (λ g low.
-        bind′ (each swapAll (movesOf (v .steps)) (g .1, g .2, roots)) _ (λ r _.
-        such low))))
+use Rattle.command.proofs.Heaps.{no-heap, the-heap, refuses, heap-encoded, held-after}
 
 -- an answer's words as a pointer and four counts
 
@@ -156,7 +133,7 @@ module _ {w : List ℕ} {r : Registers} {roots : List ℕ} {n : ℕ} (l : Lent w
 
       pointer-good : SFits w64 (a .pointer .offset) → GoodValue (Pointer (a .pointer))
       unfolding valid valueCell
-      pointer-good s = record { cell = rw (ap (λ (p : Ptr). p .heap) (answered .2 .pointer)) (holds-at (low-heap (decode w) (cellsOfRegisters r) amount) (answered .1)); whole = tt; ranged = s }
+      pointer-good s = record { cell = rw (ap (λ (p : Ptr). p .heap) (answered .2 .pointer)) (holds-at (new-valid (decode w) (cellsOfRegisters r) amount) (answered .1)); whole = tt; ranged = s }
 
       pub alloc-acts : (moved s : Registers) (k : ℕ) → cellsOfRegisters moved ≡ cellsIn roots′ → Good moved → SFits w64 (a .pointer .offset) → s .cells ≡ put (moved .cells) k (holding (Pointer (a .pointer))) → Acts (alloc k amount) w r (answer.Alloc a) v s
       unfolding valueCell

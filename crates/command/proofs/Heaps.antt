@@ -1,22 +1,18 @@
--- The state's heap: whether there is one, the program's limits, and what keeps its words an image within them.
+-- The state's heap: whether there is one, and what keeps its words an image within the program's limits.
 use mathlib.Core.Path.{_≡_, refl, ap}
 use mathlib.Core.Bool.{true}
 use mathlib.Core.List.{List, [], _∷_}
 use mathlib.Core.Option.{some}
-use Prim.Native.Nat.{ℕ, _≤_, _<_}
+use Prim.Native.Nat.{ℕ, _<_}
 use native.Mathlib.Omega.{arith}
 use lib.ListN.{length}
-use borrow.Author.Tests.{leb-true, le-leb}
 use Rattle.model.specs.Res.{ok, refuse}
-use Rattle.model.specs.Heap.{Sizes, inBounds, Heap}
-use Rattle.model.specs.Image.{imageLength, encode, decode}
-use Rattle.model.specs.Calls.{scratchLength}
+use Rattle.model.specs.Heap.{Heap}
+use Rattle.model.specs.Image.{encode, decode}
 use Rattle.model.specs.Command.{Command}
 use Rattle.model.specs.Run.{theHeap, noHeap, programBounds, step, stepped}
 use Rattle.theorems.specs.Fit.{Fit}
-use Rattle.theorems.specs.Program.{programWords, programScratch}
 use Rattle.theorems.proofs.Image.{decode-encode, encode-sized, encode-formed, image-of}
-use Rattle.theorems.proofs.Lists.{and-parts}
 use Rattle.registers.specs.declared.Registers.{Registers}
 use Rattle.registers.specs.Cells.{Good}
 use Rattle.command.specs.declared.answers.Answer.{Answer}
@@ -50,39 +46,6 @@ refuses h g e (is, same) = rw (is, same) (record { stepping = rw e; whole = tt; 
 pub answers : {c : Command} {w : List ℕ} {r : Registers} {a : Answer} {v : List ℕ} {r′ : Registers} → step c (stateOf w r) ≡ ok (answerLine a, stateOf v r′) → GoodAnswer a → Held v → Good r′ → Acts c w r a v r′
 unfolding stepped
 answers e u h g = record { stepping = rw e; whole = u; held = h; good = g }
-
--- the program's limits
-
-pub record Limited (z : Sizes) : Type 0 where
-  pub n : z .n ≤ 128
-  pub t : z .t ≤ 8192
-  pub s : z .s ≤ 128
-  pub c : z .c ≤ 512
-
-module _ (z : Sizes) (e : programBounds z ≡ true) where
-  limited : Limited z
-  unfolding programBounds
-  limited =
-      let (e₂, c) = and-parts _ _ e in
-      let (e₁, s) = and-parts _ _ e₂ in
-      let (n, t) = and-parts _ _ e₁ in
-      record { n = leb-true _ _ n; t = leb-true _ _ t; s = leb-true _ _ s; c = leb-true _ _ c }
-
-  pub limits-bound : inBounds z ≡ true
-  unfolding inBounds
-  limits-bound =
-      let l = limited in
-      rw (le-leb (z .n) 2048 (omega arith), le-leb (z .t) 8192 (omega arith), le-leb (z .s) 8192 (omega arith), le-leb (z .c) 65536 (omega arith))
-
-  -- the buffer's room
-  pub limited-image : imageLength z ≤ programWords
-  unfolding programWords imageLength
-  limited-image = let l = limited in omega arith
-
-  -- scratch's, with the sixteen registers for roots
-  pub limited-scratch : scratchLength z 16 ≤ programScratch
-  unfolding programScratch scratchLength imageLength
-  limited-scratch = let l = limited in omega arith
 
 -- words that are held
 

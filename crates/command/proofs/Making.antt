@@ -17,6 +17,7 @@ use Rattle.theorems.specs.Program.{programWords}
 use Rattle.theorems.proofs.Image.{encode-length, fresh-fit}
 use Rattle.theorems.proofs.Lists.{eqb-same}
 use Rattle.theorems.proofs.Kept.{refused-ok}
+use Rattle.theorems.proofs.Program.{limits-bound, limited-image}
 use Rattle.image.specs.Answers.{orZero, madeOutcome}
 use Rattle.image.specs.declared.Made.{Made}
 use Rattle.image.specs.declared.Made.the-variants as made
@@ -27,7 +28,7 @@ use Rattle.command.specs.declared.answers.Answer.the-variants as answer
 use Rattle.command.specs.declared.State.{State}
 use Rattle.command.specs.State.{heapIn, stateOf, holding, heapless}
 use Rattle.command.specs.Steps.{Acts, Performs}
-use Rattle.command.proofs.Heaps.{answers, limits-bound, limited-image, held-none, heap-encoded, held-image}
+use Rattle.command.proofs.Heaps.{answers, held-none, heap-encoded, held-image}
 
 -- the first k words of a buffer become v
 pub performs-front : (buffer : List ℕ) (s : State) {c : Command} {v : List ℕ} {a : Answer} {r : Registers} {k : ℕ} → k ≤ length buffer → length v ≡ k

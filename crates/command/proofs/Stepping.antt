@@ -18,6 +18,7 @@ use Rattle.model.specs.Figure.{Figure as ModelFigure, figureOf, figure as figur
 use Rattle.model.specs.Command.{set, load, store, figure}
 use Rattle.model.specs.Run.{State as ModelState, holding as holdingState, register, Line, loadLine, storeLine, figureLine, theHeap, pointerIn, added, floatIn, step}
 use Rattle.theorems.proofs.Res.{holds-at}
+use Rattle.theorems.proofs.Calls.{read-fit}
 use Rattle.value.proofs.Value.{the-type}
 use Rattle.value.specs.declared.Pointer.{Pointer}
 use Rattle.value.specs.declared.Value.{Value}
@@ -42,7 +43,7 @@ use Rattle.command.specs.Steps.{targetAnswer, targetIn, Acts}
 use Rattle.command.specs.declared.Target.{Target}
 use Rattle.command.specs.declared.Target.the-variants as target
 use Rattle.command.proofs.Heaps.{no-heap, the-heap, refuses, answers}
-use Rattle.command.proofs.Stored.{read-fit, written-as, done-left, refused-left, held-written, heap-written}
+use Rattle.command.proofs.Stored.{written-as, done-left, refused-left, held-written, heap-written}
 
 -- set
 

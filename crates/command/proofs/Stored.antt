@@ -1,23 +1,17 @@
--- What a read answers, a valid cell, and what a write leaves, the image of a heap of the same sizes.
+-- What a write leaves: the image of a heap of the same sizes.
 use mathlib.Core.Path.{_≡_, refl, sym, ap, _∙_}
 use mathlib.Core.Bool.{true}
 use mathlib.Core.List.{List, [], _∷_}
 use mathlib.Core.Option.{some}
-use Prim.Native.Nat.{ℕ, zero, suc, _<_}
-use lib.Dec.{ltb}
-use lib.ListN.{length, getD}
-use Rattle.model.specs.Lists.{flat}
-use Rattle.model.specs.Res.{Res, ok, refuse, _>>=_}
-use Rattle.model.specs.Records.{Ptr, Cell, blank, cellWords, validPlain, valid, allValid, wholeCells}
+use Prim.Native.Nat.{ℕ, _<_}
+use lib.ListN.{length}
+use Rattle.model.specs.Res.{Res, ok, refuse}
+use Rattle.model.specs.Records.{Ptr, Cell, cellWords, valid, wholeCells}
 use Rattle.model.specs.Heap.{Heap}
 use Rattle.model.specs.Image.{encode, decode}
-use Rattle.model.specs.Collector.{youngAt, oldAt, read, write}
+use Rattle.model.specs.Collector.{write}
 use Rattle.model.specs.Calls.{Outcome, valueGood, writeOn, left}
-use Rattle.theorems.specs.Holds.{Holds, such, none}
-use Rattle.theorems.specs.Fit.{Fit}
-use Rattle.theorems.proofs.Res.{bind, bind′, asked, holds-at}
-use Rattle.theorems.proofs.Lists.{and-left, and-right, flat-in}
-use Rattle.theorems.proofs.Contents.{valid-all, all-valid}
+use Rattle.theorems.proofs.Res.{holds-at}
 use Rattle.theorems.proofs.Collect.{good-heap-fit}
 use Rattle.theorems.proofs.Calls.{Left, write-left}
 use Rattle.theorems.proofs.Kept.{fit-good, refused-ok}
@@ -27,27 +21,6 @@ use Rattle.access.specs.declared.Stored.the-variants.{Done, Refused}
 use Rattle.access.proofs.Cells.{read-valid, read-cell}
 use Rattle.command.specs.State.{heapIn, Held}
 use Rattle.command.proofs.Heaps.{heap-encoded, held-after}
-
-at-valid : (l : List Cell) (i : ℕ) → allValid l ≡ true → valid (getD l i blank) ≡ true
-unfolding allValid valid validPlain blank
-at-valid [] i e = refl
-at-valid (c ∷ l) zero e = and-left (valid c) (allValid l) e
-at-valid (c ∷ l) (suc i) e = at-valid l i (and-right (valid c) (allValid l) e)
-
-pub read-fit : (h : Heap) (p : Ptr) → Fit h → Holds (λ c. valid c ≡ true) (read h p)
-unfolding read oldAt
-read-fit h p f = go (p .heap)
-  where
-    slot : List Cell
-    slot = getD (h .old .slots) (p .base) []
-
-    slot-valid : allValid slot ≡ true
-    slot-valid = valid-all slot (λ c m. all-valid (flat (h .old .slots)) (f .old .valid) c (flat-in (h .old .slots) (p .base) c m))
-
-    go : (k : ℕ) → Holds (λ c. valid c ≡ true) (elim k [ zero ↦ youngAt h p >>= λ i. ok (getD (h .young .cells) i blank) | suc k ↦ elim k [ zero ↦ oldAt h p >>= λ s. ok (getD s (p .off) blank) | suc j ↦ refuse 8 ] ])
-    go zero = bind′ (youngAt h p) _ (λ i _. such (at-valid (h .young .cells) i (f .young .valid)))
-    go (suc zero) = bind (λ s. ok (getD s (p .off) blank)) (asked 8 (ltb (p .off) (length slot)) (λ _. ok slot) (λ _. such slot-valid)) (λ s v. such (at-valid s (p .off) v))
-    go (suc (suc j)) = none
 
 -- the words of a valid cell are written as the cell
 pub written-as : (h : Heap) (p : Ptr) (c : Cell) {a b o : ℕ} → (a ∷ b ∷ o ∷ []) ≡ cellWords (c ∷ []) → valid c ≡ true → writeOn h p (a ∷ b ∷ o ∷ []) ≡ write h p c

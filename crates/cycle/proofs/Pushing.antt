@@ -1,6 +1,6 @@
 -- The loop over the survivors: what is done so far, and what the next call asks.
 use mathlib.Core.Path.{_≡_, refl, sym, ap, _∙_}
-use mathlib.Core.Bool.{Bool, true, false, true≢false}
+use mathlib.Core.Bool.{true, false, true≢false}
 use mathlib.Core.List.{List, [], _∷_, _++_, List·Memᴰ, List·Memᴰ·head, List·Memᴰ·tail}
 use Prim.Native.Nat.{ℕ, zero, suc, _+_, _*_, _-_, _/_, _^_, _≤_, _<_}
 use native.Mathlib.Nat.{zero-add, add-zero, add-suc, suc-add, suc-mul, mul-le-mul, not-suc-le-zero, le-of-suc-le-suc}
@@ -9,12 +9,11 @@ use native.Mathlib.Omega.{arith}
 use lib.ListN.{length, getD, set, drop, length-set}
 use lib.Seq.{getD-drop, getD-set-same, getD-set-other, take-set-le}
 use Rattle.model.specs.Res.{Res, ok, refuse, _>>=_, each}
-use Rattle.model.specs.Records.{Ptr, Cell, whole}
+use Rattle.model.specs.Records.{Ptr, whole}
 use Rattle.model.specs.Barrier.{masks}
 use Rattle.model.specs.Heap.{Sizes, Heap}
 use Rattle.model.specs.Image.{imageLength, sizesOf, decode}
 use Rattle.model.specs.Calls.{cellsIn, scratchLength}
-use Rattle.theorems.specs.Holds.{Holds}
 use Rattle.theorems.specs.Fit.{Image}
 use Rattle.theorems.specs.Does.{Does}
 use Rattle.theorems.proofs.Does.{answered, does-then, does-refused, does-same}
@@ -35,11 +34,11 @@ use Rattle.cycle.specs.declared.turns.Gave.{Gave}
 use Rattle.cycle.specs.declared.turns.Tally.{Tally}
 use Rattle.cycle.specs.declared.turns.Outcome.{Outcome}
 use Rattle.cycle.specs.declared.turns.Outcome.the-variants.{At, Refused}
-use Rattle.cycle.specs.Scratch.{basesAt, oldListAt, youngIn, partsIn, Saved, Front, CollectedIn}
+use Rattle.cycle.specs.Scratch.{basesAt, oldListAt, partsIn, Saved, Front, CollectedIn}
 use Rattle.cycle.specs.Turns.{Turn, Pushed, none, noted, finished, pushOne, elderTurn, againTurn, collectAndPush, pushTurn, turn}
 use Rattle.cycle.specs.Outcomes.{Asked, Ready, Ran, outcomeAnswer, gaveTurn, finishedOutcome, keptTo}
 use Rattle.cycle.proofs.Doing.{mapRes, does-map, does-none, does-more, does-stop}
-use Rattle.cycle.proofs.Frames.{front-less, word-same, young-same, parts-same, saved-same, entry-same, members-same, moves-same, members-more, moves-more}
+use Rattle.cycle.proofs.Frames.{front-less, word-same, young-same, parts-same, saved-same, moves-same, members-more, moves-more}
 use Rattle.cycle.proofs.Turning.{Small, elder-small, turn-elder, turn-again, Survive, Survived, collected-survive}
 
 tab-in : {A : Type 0} (f : ℕ → A) (i n k : ℕ) → k < n → List·Memᴰ (f (i + k)) (tab f i n)

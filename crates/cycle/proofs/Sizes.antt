@@ -5,7 +5,7 @@ use mathlib.Core.List.{List, [], _∷_, _++_}
 use Prim.Native.Nat.{ℕ, _+_, _*_, _≤_}
 use native.Mathlib.Omega.{arith}
 use lib.ListN.{length, length-append}
-use Rattle.model.specs.Res.{Res, ok, refuse, _>>=_, each}
+use Rattle.model.specs.Res.{Res, ok, refuse, _>>=_}
 use Rattle.model.specs.Records.{Ptr, Cell}
 use Rattle.model.specs.Barrier.{masks}
 use Rattle.model.specs.Heap.{Elder, Heap}
@@ -13,12 +13,12 @@ use Rattle.model.specs.Elder.{collectOld, place, placeNew}
 use Rattle.theorems.specs.Holds.{Holds, such, none as refused}
 use Rattle.theorems.specs.Fit.{Fit}
 use Rattle.theorems.specs.Does.{withOld, withYoung}
-use Rattle.theorems.proofs.Res.{bind, each-holds, weaken}
+use Rattle.theorems.proofs.Res.{bind, each-holds}
 use Rattle.elder.specs.Steps.{collectStep, placeStep, blankStep}
 use Rattle.cycle.specs.declared.turns.Request.{Request}
 use Rattle.cycle.specs.declared.turns.Request.the-variants.{New, Move}
-use Rattle.cycle.specs.Turns.{Turn, Pushed, pick, inElder, give, bumped, giveIn, mustCollect, none, noted, finished, alsoSwept, sweepAndGive, elderTurn, pushOne, againTurn, collectAndPush, pushTurn}
-use Rattle.cycle.proofs.Turning.{Survived, collected-survive}
+use Rattle.cycle.specs.Turns.{Turn, Pushed, pick, inElder, give, bumped, giveIn, mustCollect, none, noted, finished, sweepAndGive, elderTurn, pushOne, againTurn, collectAndPush, pushTurn}
+use Rattle.cycle.proofs.Turning.{collected-survive}
 
 abbrev Same : {A : Type 0} → Heap → A × Heap → Type 0
 Same h x = x .1 .size ≡ h .size

@@ -1,34 +1,32 @@
 -- What the turns are at each number of generations left, and what they keep.
 use mathlib.Core.Path.{_≡_, refl, sym, ap, _∙_}
-use mathlib.Core.Bool.{Bool, true, false, _&&_}
+use mathlib.Core.Bool.{Bool, true, false}
 use mathlib.Core.Logic.{_⊎_, ⊎-elim}
 use mathlib.Core.List.{List, [], _∷_, List·Memᴰ, List·Memᴰ·not-nil, List·Memᴰ·cases-cons}
 use Prim.Native.Nat.{ℕ, suc, _+_, _*_, _≤_, _<_}
-use native.Mathlib.Nat.{le-trans}
 use native.Mathlib.Omega.{arith}
-use lib.Dec.{ltb, leb, eqb}
+use lib.Dec.{ltb, leb}
 use lib.ListN.{length, getD}
 use borrow.Author.Tests.{ltb-true, eqb-true}
 use Rattle.model.specs.Lists.{consIf, keepIf}
 use Rattle.model.specs.Res.{Res, ok, refuse, _>>=_, ask}
 use Rattle.model.specs.Records.{Ptr, Cell, whole, inHeap}
 use Rattle.model.specs.Barrier.{most}
-use Rattle.model.specs.Heap.{Nursery, Elder, Sizes, Heap}
-use Rattle.model.specs.Image.{decode}
+use Rattle.model.specs.Heap.{Nursery, Elder, Heap}
 use Rattle.model.specs.Nursery.{youngMembers, survivors, allAllocated, emptied, collectYoung, before, insert, sort}
 use Rattle.model.specs.Elder.{collectOld, oldMembers, sweep, place, placeNew}
 use Rattle.theorems.specs.Holds.{Holds, such, none}
-use Rattle.theorems.specs.Fit.{Fit, FitNursery, Image}
+use Rattle.theorems.specs.Fit.{Fit}
 use Rattle.theorems.specs.Does.{withOld, withYoung}
 use Rattle.theorems.proofs.Lists.{and-left, and-right, keepIf-out}
 use Rattle.theorems.proofs.Members.{young-few, old-few}
 use Rattle.theorems.proofs.Sort.{sort-out}
-use Rattle.theorems.proofs.Res.{bind, bind′, asked, holds-at}
+use Rattle.theorems.proofs.Res.{bind}
 use Rattle.elder.specs.Steps.{collectStep, placeStep, blankStep}
 use Rattle.nursery.specs.Steps as nursery
 use Rattle.cycle.specs.declared.turns.Request.{Request}
 use Rattle.cycle.specs.declared.turns.Request.the-variants.{New, Move}
-use Rattle.cycle.specs.Turns.{Turn, at, inElder, give, giveIn, mustCollect, tooLarge, alsoSwept, sweepAndGive, elderTurn, againTurn, collectAndPush, pushTurn, turn, pick}
+use Rattle.cycle.specs.Turns.{Turn, at, inElder, give, giveIn, mustCollect, alsoSwept, sweepAndGive, elderTurn, againTurn, pushTurn, turn, pick}
 
 module _ (parts : ℕ → List Cell) (roots : List Cell) (ms : List ℕ) (what : Request) (h : Heap) where
   give-last : giveIn parts what 1 h ≡ give parts what h

@@ -12,7 +12,7 @@ use lib.Seq.{drop-cons}
 use Rattle.model.specs.Lists.{flat, onlyIf}
 use Rattle.model.specs.Res.{Res, ok, refuse, _>>=_, each}
 use Rattle.model.specs.Reach.{mem}
-use Rattle.model.specs.Records.{Ptr, Cell, cellWords, cellsOf, valid, allValid, wholeCells, samePtr}
+use Rattle.model.specs.Records.{Ptr, Cell, cellWords, valid, allValid, wholeCells, samePtr}
 use Rattle.model.specs.Barrier.{Barrier, countOut}
 use Rattle.model.specs.Heap.{inUse}
 use Rattle.model.specs.Elder.{keeps, countDropped}

@@ -5,7 +5,7 @@ use Prim.Native.Nat.{ℕ, zero, suc, _+_, _-_, _%_, _/_}
 use lib.Dec.{ltb, leb, eqb}
 use lib.ListN.{length}
 use Rattle.model.specs.Lists.{flat}
-use Rattle.model.specs.Records.{Ptr, Cell, plain, ref}
+use Rattle.model.specs.Records.{Cell, plain, ref}
 use Rattle.model.specs.Figure.{Figure}
 use Rattle.model.specs.Command.{Command, parseAll}
 use Rattle.model.specs.Run.{State, started, Line, newLine, allocLine, setLine, loadLine, storeLine, reportLine, figureLine, noLine, step, stepped}

@@ -1,6 +1,6 @@
 -- The run of a command file: commands over a heap and sixteen registers, each with its answer in numbers.
-use mathlib.Core.Bool.{Bool, true, false, _&&_}
-use mathlib.Core.List.{List, [], _∷_}
+use mathlib.Core.Bool.{Bool, _&&_}
+use mathlib.Core.List.{List}
 use mathlib.Core.Option.{Option, none, some}
 use Prim.Native.Nat.{ℕ, _+_, _%_}
 use lib.Dec.{leb, eqb}

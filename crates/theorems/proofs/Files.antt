@@ -16,7 +16,7 @@ use Rattle.model.specs.Calls.{Outcome, Call, call}
 use Rattle.model.specs.Figure.{Figure, figure as figureIn}
 use Rattle.model.specs.Command.{Command, new, alloc, set, load, store, report, figure, parseAll}
 use Rattle.model.specs.Run.{State, started, holding, register, Line, newLine, programBounds, theHeap, noHeap, floatIn, step, stepped}
-use Rattle.model.specs.Listing.{line, linesFrom, longestFile, lines}
+use Rattle.model.specs.Listing.{line, linesFrom, longestFile}
 use Rattle.model.specs.Demand.{History, nothing, next}
 use Rattle.theorems.specs.Files.{callOf, Follows, ends, quiet, calls, NoReport, Registered, opening, Served, stateAfter, Heapless, spelled, ServedFile}
 use Rattle.theorems.proofs.Cells.{cell-valid, valid-blanks}
