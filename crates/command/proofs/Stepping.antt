@@ -9,7 +9,7 @@ use lib.ListN.{length, getD, set as put}
 use types.Run.{OneOf, miss}
 use denote.Enum.Declared.{tagOf}
 use Rattle.model.specs.Res.{Res, ok, refuse, _>>=_}
-use Rattle.model.specs.Records.{Ptr, Cell, blank, cellWords, valid, validWords}
+use Rattle.model.specs.Records.{Ptr, Cell, blank, cellWords, validWords}
 use Rattle.model.specs.Heap.{Heap}
 use Rattle.model.specs.Image.{decode}
 use Rattle.model.specs.Collector.{read, write}

@@ -2,57 +2,55 @@
 // write fails, the program says so on standard error and ends. Printed is then nothing, or the listing's beginning.
 use libc::STDIN_FILENO;
 use libc::STDOUT_FILENO;
-use listing::IMAGE;
-use listing::SCRATCH;
 ghost use mathlib.Core.Path.{_≡_};
 ghost use Prim.Native.Nat.{_+_, _^_, _<_, _≤_};
 ghost use lib.ListN.{length};
 ghost use Rattle.model.specs.Listing.{longestFile};
-ghost use Rattle.heap.specs.Bytes.{Comes, Prints};
+ghost use Rattle.heap.specs.Bytes.{Comes, Stops, Prints};
 
 // A byte more than the longest file has, which tells that a file is too long.
 const FILE: usize = 65537;
+
+// Words for an image of the program's largest heap, and for its scratch.
+const IMAGE: usize = 2698;
+
+const SCRATCH: usize = 5754;
 
 const OUT: usize = 16384;
 
 // ---- Standard input
 
-// How many bytes were read, and whether no read failed.
+// How many bytes stand in front of the buffer, how many of them the last read brought, and whether it did not fail.
 struct Input {
     len: usize,
+    came: usize,
     is_read: bool,
 }
 
 // One read, behind the bytes of those before it.
 fn read_more(file: &mut [u8], len: usize) -> Input
     requires { ⌜ len ≤ length (now file) ⌝ }
-    ensures { λ r. ⌜ Comes (now (file .entry)) len (now (file .exit)) (r .len) ⌝ }
+    ensures { λ r. ⌜ Comes (now (file .entry)) len (r .came) (now (file .exit)) (r .len) ⌝ }
 {
     let got = libc::read(STDIN_FILENO, &mut file[len..]);
-    let n = io::count(got, &file[len..]);
+    let came = io::count(got, &file[len..]);
     Input {
-        len: len + n,
-        is_read: 0 <= got,
+        len: len + came,
+        came,
+        is_read: got >= 0,
     }
 }
 
 // To the end of the input, or until `file` is full. A pipe hands over a part at a time.
 fn read_all(file: &mut [u8]) -> Input
     requires { ⌜ longestFile < length (now file) ⌝ }
-    ensures { λ r. ⌜ r .len ≤ length (now (file .exit)) ⌝ }
+    ensures { λ r. ⌜ Stops (now (file .exit)) (r .len) (r .came) ⌝ }
 {
-    let mut len = 0;
-    while len < file.len() {
-        let more = read_more(file, len);
-        if !more.is_read {
-            return more;
-        }
-        if more.len == len {
-            break;
-        }
-        len = more.len;
+    let mut input = read_more(file, 0);
+    while input.came > 0 && input.len < file.len() {
+        input = read_more(file, input.len);
     }
-    Input { len, is_read: true }
+    input
 }
 
 // ---- Standard output

@@ -129,9 +129,6 @@ fn text(answer: Answer, out: &mut [u8], at: usize) -> usize
     }
 }
 
-// The most bytes that a line has.
-pub const LINE: usize = 259;
-
 pub fn line(number: u64, answer: Answer, out: &mut [u8], at: usize) -> usize
     requires { ⌜ at + longestLine ≤ length (now out) ⌝ }
     ensures { λ r. ⌜ Wrote (line number (answerLine answer)) (now (out .entry)) at (now (out .exit)) r ⌝ }

@@ -13,13 +13,10 @@ ghost use Rattle.reader.specs.Answer.{nextAnswer};
 ghost use Rattle.lines.specs.Longest.{longestLine};
 ghost use Rattle.listing.specs.Left.{standsAt, leftOf, Going, Advances, Fills};
 
-// Words enough for an image of the program's largest heap, and for its scratch.
-pub const IMAGE: usize = 2698;
+// The most bytes of a file, and of a line.
+const FILE: usize = 65536;
 
-pub const SCRATCH: usize = 5754;
-
-// The longest file.
-const MOST: usize = 65536;
+const LINE: usize = 259;
 
 // The place and the number of the next command, and the state before it.
 pub struct Run {
@@ -53,7 +50,7 @@ pub fn begin() -> Run
 fn stands_at(file: &[u8], at: usize) -> Next
     ensures { λ r. ⌜ nextAnswer r ≡ standsAt (now (file .entry)) at ⌝ }
 {
-    if file.len() <= MOST {
+    if file.len() <= FILE {
         return reader::read_at(file, at);
     }
     if at < file.len() {
@@ -124,7 +121,7 @@ pub fn fill(
 {
     let mut next = run;
     let mut used = 0;
-    while next.at < file.len() && used + lines::LINE <= out.len() {
+    while next.at < file.len() && used + LINE <= out.len() {
         let f = advance(file, buffer, scratch, next, out, used);
         next = f.run;
         used = f.used;

@@ -26,11 +26,11 @@ array-share-prefix-file : tie.Need-array-share-prefix-file
 array-share-prefix-file c = search needs
 
 slice-aggregate-print-all : tie.Need-slice-aggregate-print-all
-slice-aggregate-print-all c = sym (length-take-le _ _ (c .before .before .before .before .read-all .ensures))
+slice-aggregate-print-all c = sym (length-take-le _ _ (c .before .before .before .before .read-all .ensures .within))
 
 print-all-requires : tie.Need-print-all-requires
 unfolding longestFile
-print-all-requires c κs = let call = c .before .before .before .before .read-all in omega (arith, call .ensures, call .kept .0, length-take-le (call .result .len) (call .last .0) (call .ensures))
+print-all-requires c κs = let call = c .before .before .before .before .read-all in omega (arith, call .ensures .within, call .kept .0, length-take-le (call .result .len) (call .last .0) (call .ensures .within))
 
 slice-aggregate-fail-2 : tie.Need-slice-aggregate-fail-2
 slice-aggregate-fail-2 c = search needs

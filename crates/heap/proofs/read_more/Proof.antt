@@ -1,3 +1,4 @@
+use mathlib.Core.Path.{refl}
 use lib.Seq.{take-at, length-take-le}
 use borrow.Author.Needs.{needs}
 use Rattle.heap.proofs.read_more.Statement.{statement}
@@ -34,7 +35,9 @@ same-length : tie.Need-same-length
 same-length c = search needs
 
 returns : tie.Need-returns
-returns c = record { stays = take-at _ _ _ (length-take-le _ _ (c .before .before .before .before .before .before .before .before .pre)); from = search needs; within = search needs }
+returns c =
+    let s = c .before .before .before .before .before .before .before .before in
+    record { stays = take-at _ _ _ (length-take-le _ _ (s .pre)); behind = refl; within = search needs }
 
 pub read-more-spec : {M : Type 1} → statement M
 read-more-spec =
