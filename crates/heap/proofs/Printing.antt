@@ -13,6 +13,9 @@ use Rattle.listing.specs.Left.{leftOf, Going, Fills}
 use Rattle.listing.proofs.Printing.{nothing-left}
 use Rattle.heap.specs.Bytes.{Prints}
 
+pub taken : (k : ℕ) (out : List ℕ) → k ≤ length out → k ≡ length (take k out)
+taken k out h = sym (length-take-le k out h)
+
 -- a buffer has at most 16,384 bytes, and each is filled from a further place of the file
 pub record Printing (file image : List ℕ) (run : Run) (len : ℕ) : Type 0 where
   pub going : Going file image run

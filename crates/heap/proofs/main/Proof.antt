@@ -1,4 +1,4 @@
-use mathlib.Core.Path.{sym}
+use Rattle.heap.proofs.Printing.{taken}
 use native.Mathlib.Omega.{arith}
 use lib.Seq.{length-take-le}
 use Rattle.model.specs.Listing.{longestFile}
@@ -26,7 +26,7 @@ array-share-prefix-file : tie.Need-array-share-prefix-file
 array-share-prefix-file c = search needs
 
 slice-aggregate-print-all : tie.Need-slice-aggregate-print-all
-slice-aggregate-print-all c = sym (length-take-le _ _ (c .before .before .before .before .read-all .ensures .within))
+slice-aggregate-print-all c = search (taken, needs)
 
 print-all-requires : tie.Need-print-all-requires
 unfolding longestFile

@@ -1,12 +1,11 @@
-use mathlib.Core.Path.{_≡_, sym}
+use mathlib.Core.Path.{_≡_}
 use Prim.Native.Nat.{_-_}
 use native.Mathlib.Omega.{arith}
 use lib.ListN.{length}
-use lib.Seq.{length-take-le}
 use Rattle.model.specs.Image.{imageLength}
 use Rattle.model.specs.Calls.{scratchLength}
 use Rattle.theorems.specs.Program.{programWords, programScratch}
-use Rattle.heap.proofs.Printing.{Printing, print-none, print-fits, print-more, print-stopped, print-done}
+use Rattle.heap.proofs.Printing.{taken, Printing, print-none, print-fits, print-more, print-stopped, print-done}
 use borrow.Author.Needs.{needs}
 use Rattle.heap.proofs.print_all.Statement.{statement}
 use Rattle.heap.proofs.print_all.Tie as tie
@@ -44,7 +43,7 @@ array-share-prefix-out : tie.Need-array-share-prefix-out Inv-loop μ-loop
 array-share-prefix-out c = search needs
 
 slice-aggregate-write-more : tie.Need-slice-aggregate-write-more Inv-loop μ-loop
-slice-aggregate-write-more c = sym (length-take-le _ _ (c .before .before .before .before .fill .ensures .inside))
+slice-aggregate-write-more c = search (taken, needs)
 
 write-more-requires : tie.Need-write-more-requires Inv-loop μ-loop
 write-more-requires c κs =
