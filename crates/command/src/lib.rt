@@ -152,13 +152,13 @@ fn target_of(v: Value, offset: i64) -> Target
 }
 
 // The value goes to answer and register as it was read.
-fn loaded(registers: Registers, register: usize, v: Value) -> Acted
+fn loaded(registers: Registers, register: usize, read: Value) -> Acted
     requires { ⌜ register < 16 ⌝ }
-    ensures { λ r. ⌜ (r .answer ≡ Load v) × (r .registers .cells ≡ put (registers .cells) register (registerOf v)) ⌝ }
+    ensures { λ r. ⌜ (r .answer ≡ Load read) × (r .registers .cells ≡ put (registers .cells) register (registerOf read)) ⌝ }
 {
     Acted {
-        answer: Answer::Load(v),
-        registers: registers.set(register, v),
+        answer: Answer::Load(read),
+        registers: registers.set(register, read),
     }
 }
 
