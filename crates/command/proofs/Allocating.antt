@@ -15,7 +15,7 @@ use Rattle.model.specs.Image.{encode, decode}
 use Rattle.model.specs.Collector.{Allocation as ModelAllocation, fourCounts, alloc as allocIn}
 use Rattle.model.specs.Calls.{Outcome, cellsIn, rootsGood, scratchLength, allocOn, allocated}
 use Rattle.model.specs.Command.{alloc}
-use Rattle.model.specs.Run.{holding as holdingState, allocLine, step, stepped}
+use Rattle.model.specs.Run.{holding, allocLine, step}
 use Rattle.theorems.specs.Program.{programScratch}
 use Rattle.theorems.proofs.Res.{holds-at}
 use Rattle.theorems.proofs.Contents.{all-valid, valid-all}
@@ -32,13 +32,13 @@ use Rattle.collector.specs.declared.Allocated.{Allocated}
 use Rattle.collector.specs.declared.Allocated.the-variants.{At, Refused}
 use Rattle.registers.specs.declared.Registers.{Registers}
 use Rattle.access.specs.Access.{pointerOf}
-use Rattle.registers.specs.Cells.{cellsOfRegisters, holding, GoodValue, Good}
+use Rattle.registers.specs.Cells.{cellsOfRegisters, registerOf, GoodValue, Good}
 use Rattle.registers.proofs.Values.{set-cells, set-good, values-valid, good-whole}
 use Rattle.command.specs.declared.answers.Answer.{Answer}
 use Rattle.command.specs.declared.answers.Answer.the-variants as answer
 use Rattle.command.specs.State.{stateOf, Held}
 use Rattle.command.specs.Steps.{Acts}
-use Rattle.command.proofs.Heaps.{no-heap, the-heap, refuses, heap-encoded, held-after}
+use Rattle.command.proofs.Heaps.{no-heap, the-heap, refuses, answers, heap-encoded, held-after}
 
 -- an answer's words as a pointer and four counts
 
@@ -98,22 +98,16 @@ module _ {w : List ℕ} {r : Registers} {roots : List ℕ} {n : ℕ} (l : Lent w
       let fits : scratchLength (decode w .size) 16 ≤ n = omega (arith, l .room, limited-scratch (decode w .size) (l .held .bounded (l .there))) in
       rw (cells, le-leb (length roots) (3 * 4096) (omega (arith, l .long)), sixteen, le-leb (scratchLength (decode w .size) 16) n fits, l .words, words-in (cellsOfRegisters r) valid-cells)
 
-  step-is : (k : ℕ) → step (alloc k amount) (stateOf w r) ≡ (allocIn (decode w) (cellsOfRegisters r) amount >>= λ x. ok (allocLine (x .ptr) (fourCounts x), record { heap = some (x .heap); registers = put (x .roots) k (ref (x .ptr)) }))
-  unfolding step holdingState stateOf
+  step-is : (k : ℕ) → step (alloc k amount) (stateOf w r) ≡ (allocIn (decode w) (cellsOfRegisters r) amount >>= λ x. ok (allocLine (x .ptr) (fourCounts x), holding (some (x .heap)) (put (x .roots) k (ref (x .ptr))) (stateOf w r)))
+  unfolding step stateOf
   step-is k = rw (the-heap w r (l .there))
 
   same-acts : {x : ModelAllocation} {a : Allocation} {v roots′ : List ℕ} → allocIn (decode w) (cellsOfRegisters r) amount ≡ ok x → Told ⊥ (decode w) (cellsOfRegisters r) x → Same x a v roots′
       → (moved s : Registers) (k : ℕ) → cellsOfRegisters moved ≡ cellsIn roots′ → cellsOfRegisters s ≡ put (cellsOfRegisters moved) k (ref (pointerOf (a .pointer))) → Good s → Acts (alloc k amount) w r (answer.Alloc a) v s
-  unfolding stepped stateOf
   same-acts {x} gave told same moved s k from now good =
       let fit = good-heap-fit (told .good) in
       let back = words-in (x .roots) (valid-all (x .roots) (told .roots-valid)) in
-      record {
-        stepping = rw (step-is k, gave, same .counts, same .image, heap-encoded fit, now, from, same .roots-are, back, same .pointer);
-        whole = tt;
-        held = rw (same .image) (held-after fit (l .held) (l .there) (told .same-size));
-        good = good;
-      }
+      answers (rw (step-is k, gave, same .counts, same .image, heap-encoded fit, now, from, same .roots-are, back, same .pointer)) tt (rw (same .image) (held-after fit (l .held) (l .there) (told .same-size))) good
 
   module _ (o : Allocated) (v roots′ : List ℕ) (e : allocated w roots (allocOn (decode w) roots n amount) ≡ allocOutcome o v roots′) where
     pub alloc-refused : {q : ℕ} {b : Answer} {r′ : Registers} (k : ℕ) → o ≡ Refused q → (b ≡ answer.Refused q) × (r′ ≡ r) → Acts (alloc k amount) w r b v r′
@@ -135,6 +129,6 @@ module _ {w : List ℕ} {r : Registers} {roots : List ℕ} {n : ℕ} (l : Lent w
       unfolding valid valueCell
       pointer-good s = record { cell = rw (ap (λ (p : Ptr). p .heap) (answered .2 .pointer)) (holds-at (new-valid (decode w) (cellsOfRegisters r) amount) (answered .1)); whole = tt; ranged = s }
 
-      pub alloc-acts : (moved s : Registers) (k : ℕ) → cellsOfRegisters moved ≡ cellsIn roots′ → Good moved → SFits w64 (a .pointer .offset) → s .cells ≡ put (moved .cells) k (holding (Pointer (a .pointer))) → Acts (alloc k amount) w r (answer.Alloc a) v s
+      pub alloc-acts : (moved s : Registers) (k : ℕ) → cellsOfRegisters moved ≡ cellsIn roots′ → Good moved → SFits w64 (a .pointer .offset) → s .cells ≡ put (moved .cells) k (registerOf (Pointer (a .pointer))) → Acts (alloc k amount) w r (answer.Alloc a) v s
       unfolding valueCell
       alloc-acts moved s k from good fits now = same-acts (answered .1) told (answered .2) moved s k from (set-cells moved s k (Pointer (a .pointer)) now) (set-good moved s k (Pointer (a .pointer)) now good (pointer-good fits))

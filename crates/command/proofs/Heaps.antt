@@ -10,11 +10,11 @@ use Rattle.model.specs.Res.{ok, refuse}
 use Rattle.model.specs.Heap.{Heap}
 use Rattle.model.specs.Image.{encode, decode}
 use Rattle.model.specs.Command.{Command}
-use Rattle.model.specs.Run.{theHeap, noHeap, programBounds, step, stepped}
+use Rattle.model.specs.Run.{holding, theHeap, noHeap, programBounds, step, stepped}
 use Rattle.theorems.specs.Fit.{Fit}
 use Rattle.theorems.proofs.Image.{decode-encode, encode-sized, encode-formed, image-of}
 use Rattle.registers.specs.declared.Registers.{Registers}
-use Rattle.registers.specs.Cells.{Good}
+use Rattle.registers.specs.Cells.{cellsOfRegisters, Good}
 use Rattle.command.specs.declared.answers.Answer.{Answer}
 use Rattle.command.specs.declared.answers.Answer.the-variants.{Refused}
 use Rattle.command.specs.Answers.{answerLine, GoodAnswer}
@@ -43,8 +43,9 @@ pub refuses : {c : Command} {w : List ℕ} {r r′ : Registers} {a : Answer} {q 
 unfolding stepped
 refuses h g e (is, same) = rw (is, same) (record { stepping = rw e; whole = tt; held = h; good = g })
 
-pub answers : {c : Command} {w : List ℕ} {r : Registers} {a : Answer} {v : List ℕ} {r′ : Registers} → step c (stateOf w r) ≡ ok (answerLine a, stateOf v r′) → GoodAnswer a → Held v → Good r′ → Acts c w r a v r′
-unfolding stepped
+-- the model's state made anew is that of the words and registers that are left
+pub answers : {c : Command} {w : List ℕ} {r : Registers} {a : Answer} {v : List ℕ} {r′ : Registers} → step c (stateOf w r) ≡ ok (answerLine a, holding (heapIn v) (cellsOfRegisters r′) (stateOf w r)) → GoodAnswer a → Held v → Good r′ → Acts c w r a v r′
+unfolding stepped holding stateOf
 answers e u h g = record { stepping = rw e; whole = u; held = h; good = g }
 
 -- words that are held

@@ -11,7 +11,7 @@ use Rattle.model.specs.Heap.{Sizes, inBounds, fresh}
 use Rattle.model.specs.Image.{imageLength, encode}
 use Rattle.model.specs.Calls.{Outcome, left, newCall}
 use Rattle.model.specs.Command.{Command, new}
-use Rattle.model.specs.Run.{holding as holdingState, noHeap, programBounds, step, stepped}
+use Rattle.model.specs.Run.{noHeap, programBounds, step, stepped}
 use Rattle.theorems.specs.Fit.{Fit}
 use Rattle.theorems.specs.Program.{programWords}
 use Rattle.theorems.proofs.Image.{encode-length, fresh-fit}
@@ -61,7 +61,7 @@ module _ (buffer : List ℕ) (z : Sizes) where
       make-always f = refused-ok (ap (λ (o : Outcome). o .answer) (ap (λ (x : Made). madeOutcome x v) (sym f) ∙ newly))
 
       pub make-done : m ≡ made.Done → (r : Registers) → Good r → Performs (new z) buffer (heapless r) answer.New (v ++ drop k buffer) (holding k r)
-      unfolding step noHeap holdingState stateOf heapIn madeOutcome left fresh
+      unfolding step noHeap stateOf heapIn madeOutcome left fresh
       make-done f r g =
           let fit : Fit (fresh z) = fresh-fit z (limits-bound z e) in
           let image : v ≡ encode (fresh z) = ap (λ (o : Outcome). o .image) (ap (λ (x : Made). madeOutcome x v) (sym f) ∙ newly) in

@@ -10,7 +10,7 @@ use Rattle.model.specs.Image.{encode, decode}
 use Rattle.model.specs.Collector.{report as reportOf}
 use Rattle.model.specs.Calls.{Outcome, reported}
 use Rattle.model.specs.Command.{report}
-use Rattle.model.specs.Run.{holding, reportLine, step, stepped}
+use Rattle.model.specs.Run.{holding, reportLine, step}
 use Rattle.theorems.proofs.Res.{holds-at}
 use Rattle.theorems.proofs.Collect.{good-heap-fit}
 use Rattle.theorems.proofs.Calls.{Left, report-left}
@@ -25,7 +25,7 @@ use Rattle.command.specs.declared.answers.Answer.{Answer}
 use Rattle.command.specs.declared.answers.Answer.the-variants as answer
 use Rattle.command.specs.State.{stateOf, Held}
 use Rattle.command.specs.Steps.{Acts}
-use Rattle.command.proofs.Heaps.{no-heap, the-heap, refuses, heap-encoded, held-after}
+use Rattle.command.proofs.Heaps.{no-heap, the-heap, refuses, answers, heap-encoded, held-after}
 
 module _ (w v : List ℕ) where
   same-report : (s : Statistics) (m : Res (List ℕ × Heap)) → reported w m ≡ reportOutcome (Taken s) v → (x : List ℕ × Heap) × (m ≡ ok x) × (numbers s ≡ x .0) × (v ≡ encode (x .1))
@@ -49,15 +49,14 @@ unfolding step
 report-heapless {w} {r} h g e = refuses h g (rw (no-heap w r e))
 
 module _ {w : List ℕ} {r : Registers} (h : Held w) (pos : 0 < length w) (g : Good r) where
-  step-is : step report (stateOf w r) ≡ (reportOf (decode w) >>= λ x. ok (reportLine (x .0), record { heap = some (x .1); registers = cellsOfRegisters r }))
-  unfolding step holding stateOf
+  step-is : step report (stateOf w r) ≡ (reportOf (decode w) >>= λ x. ok (reportLine (x .0), holding (some (x .1)) (cellsOfRegisters r) (stateOf w r)))
+  unfolding step stateOf
   step-is = rw (the-heap w r pos)
 
   same-acts : {x : List ℕ × Heap} {s : Statistics} {v : List ℕ} → reportOf (decode w) ≡ ok x → Left ⊥ (decode w) (x .1) → numbers s ≡ x .0 → v ≡ encode (x .1) → Acts report w r (answer.Report s) v r
-  unfolding stepped stateOf
   same-acts gave left same image =
       let fit = good-heap-fit (left .good) in
-      record { stepping = rw (step-is, gave, same, image, heap-encoded fit); whole = tt; held = rw image (held-after fit h pos (left .same-size)); good = g }
+      answers (rw (step-is, gave, same, image, heap-encoded fit)) tt (rw image (held-after fit h pos (left .same-size))) g
 
   module _ (o : Reported) (v : List ℕ) (e : reported w (reportOf (decode w)) ≡ reportOutcome o v) where
     pub report-refused : {q : ℕ} {a : Answer} {r′ : Registers} → o ≡ Refused q → (a ≡ answer.Refused q) × (r′ ≡ r) → Acts report w r a v r′

@@ -16,7 +16,7 @@ use Rattle.model.specs.Collector.{read, write}
 use Rattle.model.specs.Calls.{writeOn, left}
 use Rattle.model.specs.Figure.{Figure as ModelFigure, figureOf, figure as figureIn}
 use Rattle.model.specs.Command.{set, load, store, figure}
-use Rattle.model.specs.Run.{State as ModelState, holding as holdingState, register, Line, loadLine, storeLine, figureLine, theHeap, pointerIn, added, floatIn, step}
+use Rattle.model.specs.Run.{State as ModelState, holding, register, Line, loadLine, storeLine, figureLine, theHeap, pointerIn, added, floatIn, step}
 use Rattle.theorems.proofs.Res.{holds-at}
 use Rattle.theorems.proofs.Calls.{read-fit}
 use Rattle.value.proofs.Value.{the-type}
@@ -34,7 +34,7 @@ use Rattle.access.specs.declared.Loaded.the-variants as loaded
 use Rattle.access.specs.declared.Stored.{Stored}
 use Rattle.access.specs.declared.Stored.the-variants as stored
 use Rattle.registers.specs.declared.Registers.{Registers}
-use Rattle.registers.specs.Cells.{cellsOfRegisters, holding, unset, GoodValue, Good}
+use Rattle.registers.specs.Cells.{cellsOfRegisters, registerOf, unset, GoodValue, Good}
 use Rattle.registers.proofs.Values.{spelled-good, got-cell, got-good, set-cells, set-good}
 use Rattle.command.specs.declared.answers.Answer.{Answer}
 use Rattle.command.specs.declared.answers.Answer.the-variants as answer
@@ -52,8 +52,8 @@ module _ {w : List ℕ} {r : Registers} {k a b o : ℕ} {t : Registers} (h : Hel
   unfolding step
   set-refused e = refuses h g (rw e)
 
-  pub set-done : (v : Value) → validWords a b o ≡ true → Spelled a b o v → t .cells ≡ put (r .cells) k (holding v) → Acts (set k a b o) w r answer.Set w t
-  unfolding step holdingState stateOf
+  pub set-done : (v : Value) → validWords a b o ≡ true → Spelled a b o v → t .cells ≡ put (r .cells) k (registerOf v) → Acts (set k a b o) w r answer.Set w t
+  unfolding step stateOf
   set-done v e p is = answers (rw (e, set-cells r t k v is, p .cell)) tt h (set-good r t k v is g (spelled-good a b o v e p))
 
 -- figure
@@ -96,6 +96,7 @@ module _ {w : List ℕ} {r : Registers} (k : ℕ) (h : Held w) (g : Good r) (v :
     figure-refused i = refuses h g (rw (figure-answer, i))
 
     pub figure-done : {x : Figure} → f ≡ figured.Is x → Acts (figure k) w r (answer.Figure x) w r
+    unfolding holding stateOf
     figure-done i = answers (rw (figure-answer, i)) tt h g
 
 -- where an access goes, in the heap
@@ -122,7 +123,7 @@ module _ {w : List ℕ} (h : Held w) (l : 0 < length w) (p : Ptr) {x : Loaded} (
 
 -- what is answered of a cell that was read
 abbrev putIn : List ℕ → Registers → ℕ → Cell → Res (Line × ModelState)
-putIn w r k c = ok (loadLine c, record { heap = heapIn w; registers = put (cellsOfRegisters r) k c })
+putIn w r k c = ok (loadLine c, holding (heapIn w) (put (cellsOfRegisters r) k c) (stateOf w r))
 
 module _ {w : List ℕ} {r : Registers} (k p d : ℕ) (h : Held w) (g : Good r) where
   pub load-heapless : {a : Answer} {s : Registers} → length w ≡ 0 → (a ≡ answer.Refused 14) × (s ≡ r) → Acts (load k p d) w r a w s
@@ -131,7 +132,7 @@ module _ {w : List ℕ} {r : Registers} (k p d : ℕ) (h : Held w) (g : Good r) 
 
   module _ (l : 0 < length w) (v : Value) (at : v ≡ getD (r .cells) p unset .value) (t : Target) (e : targetAnswer t ≡ targetIn (valueCell v) d) where
     load-is : step (load k p d) (stateOf w r) ≡ (targetAnswer t >>= λ y. read (decode w) y >>= putIn w r k)
-    unfolding step holdingState register stateOf
+    unfolding step register stateOf
     load-is = aimed w r l (getD (cellsOfRegisters r) p blank) d (λ h y. read h y >>= putIn w r k) ∙ rw (← got-cell r p at, ← e)
 
     pub load-nowhere : {q : ℕ} {a : Answer} {s : Registers} → t ≡ target.Refused q → (a ≡ answer.Refused q) × (s ≡ r) → Acts (load k p d) w r a w s
@@ -145,8 +146,8 @@ module _ {w : List ℕ} {r : Registers} (k p d : ℕ) (h : Held w) (g : Good r) 
       unfolding loadedCell
       load-refused f = refuses h g (rw (load-reads, f))
 
-      pub load-done : {u : Value} {a : Answer} {s : Registers} → x ≡ loaded.Value u → (a ≡ answer.Load u) × (s .cells ≡ put (r .cells) k (holding u)) → Acts (load k p d) w r a w s
-      unfolding loadedCell stateOf
+      pub load-done : {u : Value} {a : Answer} {s : Registers} → x ≡ loaded.Value u → (a ≡ answer.Load u) × (s .cells ≡ put (r .cells) k (registerOf u)) → Acts (load k p d) w r a w s
+      unfolding loadedCell
       load-done {u} {s = s} f (is, now) =
           let good = loaded-good h l (pointerOf y) m f in
           rw is (answers (rw (load-reads, f, set-cells r s k u now)) good h (set-good r s k u now g good))
@@ -154,8 +155,8 @@ module _ {w : List ℕ} {r : Registers} (k p d : ℕ) (h : Held w) (g : Good r) 
 -- store
 
 -- what is answered of the heap after a write
-abbrev kept : Registers → Heap → Res (Line × ModelState)
-kept r h = ok (storeLine, record { heap = some h; registers = cellsOfRegisters r })
+abbrev kept : List ℕ → Registers → Heap → Res (Line × ModelState)
+kept w r h = ok (storeLine, holding (some h) (cellsOfRegisters r) (stateOf w r))
 
 module _ {w : List ℕ} {r : Registers} (k p d : ℕ) (h : Held w) (g : Good r) where
   pub store-heapless : {a : Answer} {s : Registers} → length w ≡ 0 → (a ≡ answer.Refused 14) × (s ≡ r) → Acts (store k p d) w r a w s
@@ -164,9 +165,9 @@ module _ {w : List ℕ} {r : Registers} (k p d : ℕ) (h : Held w) (g : Good r) 
 
   module _ (l : 0 < length w) (v : Value) (at : v ≡ getD (r .cells) p unset .value) (t : Target) (e : targetAnswer t ≡ targetIn (valueCell v) d)
       (u : Value) (here : u ≡ getD (r .cells) k unset .value) where
-    store-is : step (store k p d) (stateOf w r) ≡ (targetAnswer t >>= λ y. write (decode w) y (valueCell u) >>= kept r)
-    unfolding step holdingState register stateOf
-    store-is = aimed w r l (getD (cellsOfRegisters r) p blank) d (λ h y. write h y (getD (cellsOfRegisters r) k blank) >>= kept r) ∙ rw (← got-cell r p at, ← e, ← got-cell r k here)
+    store-is : step (store k p d) (stateOf w r) ≡ (targetAnswer t >>= λ y. write (decode w) y (valueCell u) >>= kept w r)
+    unfolding step register stateOf
+    store-is = aimed w r l (getD (cellsOfRegisters r) p blank) d (λ h y. write h y (getD (cellsOfRegisters r) k blank) >>= kept w r) ∙ rw (← got-cell r p at, ← e, ← got-cell r k here)
 
     pub store-nowhere : {q : ℕ} {a : Answer} {s : Registers} → t ≡ target.Refused q → (a ≡ answer.Refused q) × (s ≡ r) → Acts (store k p d) w r a w s
     store-nowhere f = refuses h g (rw (store-is, f))
@@ -179,11 +180,10 @@ module _ {w : List ℕ} {r : Registers} (k p d : ℕ) (h : Held w) (g : Good r) 
       as-cell : writeOn (decode w) (pointerOf y) (a ∷ b ∷ o ∷ []) ≡ write (decode w) (pointerOf y) (valueCell u)
       as-cell = written-as (decode w) (pointerOf y) (valueCell u) words (good .cell)
 
-      store-writes : step (store k p d) (stateOf w r) ≡ (writeOn (decode w) (pointerOf y) (a ∷ b ∷ o ∷ []) >>= kept r)
+      store-writes : step (store k p d) (stateOf w r) ≡ (writeOn (decode w) (pointerOf y) (a ∷ b ∷ o ∷ []) >>= kept w r)
       store-writes = rw (store-is, aim, as-cell)
 
       pub store-done : x ≡ stored.Done → Acts (store k p d) w r answer.Store z r
-      unfolding stateOf
       store-done f =
           let (n, answered, is) = done-left (writeOn (decode w) (pointerOf y) (a ∷ b ∷ o ∷ [])) w z x m f in
           let wrote = sym as-cell ∙ answered in

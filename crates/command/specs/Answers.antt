@@ -19,7 +19,7 @@ answerLine (Report s) = reportLine (numbers s)
 answerLine (Figure f) = figureLine (modelFigure f)
 answerLine (Refused q) = noLine q
 
--- a line has a loaded value's cell: the value is the one that its cell's words spell
+-- a line tells of a loaded value no more than its cell: the value is the one that the cell's words spell
 abbrev pub GoodAnswer : Answer → Type 0
 GoodAnswer New = Unit {0}
 GoodAnswer (Alloc a) = Unit {0}

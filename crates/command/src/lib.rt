@@ -25,7 +25,7 @@ ghost use Rattle.model.specs.Run.{programBounds};
 ghost use Rattle.theorems.specs.Program.{programWords, programScratch};
 ghost use Rattle.value.specs.Value.{valueCell};
 ghost use Rattle.image.specs.Places.{sizes};
-ghost use Rattle.registers.specs.Cells.{holding as registerOf, Good};
+ghost use Rattle.registers.specs.Cells.{registerOf, Good};
 ghost use Rattle.reader.specs.Answer.{modelCommand};
 ghost use Rattle.command.specs.declared.answers.Answer.the-variants.{Load, Refused};
 ghost use Rattle.command.specs.State.{holding, heapless, Held, Ready};

@@ -12,7 +12,7 @@ use Rattle.value.specs.declared.Value.the-variants.{Uninitialized}
 use Rattle.value.specs.Value.{valueCell, Spelled}
 use Rattle.registers.specs.declared.Register.{Register}
 use Rattle.registers.specs.declared.Registers.{Registers}
-use Rattle.registers.specs.Cells.{registerCell, cellsOfRegisters, holding, unset, GoodValue, Good}
+use Rattle.registers.specs.Cells.{registerCell, cellsOfRegisters, registerOf, unset, GoodValue, Good}
 
 unset-good : GoodValue Uninitialized
 unfolding valueCell blank valid validPlain
@@ -53,20 +53,20 @@ module _ (s : Registers) (r : ℕ) {v : Value} (e : v ≡ getD (s .cells) r unse
 
 -- one register set
 
-cells-set : (xs : List Register) (r : ℕ) (v : Value) → map registerCell (set xs r (holding v)) ≡ set (map registerCell xs) r (valueCell v)
+cells-set : (xs : List Register) (r : ℕ) (v : Value) → map registerCell (set xs r (registerOf v)) ≡ set (map registerCell xs) r (valueCell v)
 cells-set [] r v = refl
 cells-set (x ∷ xs) zero v = refl
 cells-set (x ∷ xs) (suc r) v = ap (registerCell x ∷_) (cells-set xs r v)
 
 values-set : (xs : List Register) (r : ℕ) (v : Value) → ((k : ℕ) → GoodValue (getD xs k unset .value)) → GoodValue v
-    → (k : ℕ) → GoodValue (getD (set xs r (holding v)) k unset .value)
+    → (k : ℕ) → GoodValue (getD (set xs r (registerOf v)) k unset .value)
 values-set [] r v g n k = g k
 values-set (x ∷ xs) zero v g n zero = n
 values-set (x ∷ xs) zero v g n (suc k) = g (suc k)
 values-set (x ∷ xs) (suc r) v g n zero = g zero
 values-set (x ∷ xs) (suc r) v g n (suc k) = values-set xs r v (λ j. g (suc j)) n k
 
-module _ (s t : Registers) (r : ℕ) (v : Value) (e : t .cells ≡ set (s .cells) r (holding v)) where
+module _ (s t : Registers) (r : ℕ) (v : Value) (e : t .cells ≡ set (s .cells) r (registerOf v)) where
   pub set-cells : cellsOfRegisters t ≡ set (cellsOfRegisters s) r (valueCell v)
   set-cells = rw e (cells-set (s .cells) r v)
 

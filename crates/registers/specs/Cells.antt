@@ -17,12 +17,12 @@ registerCell x = valueCell (x .value)
 abbrev pub cellsOfRegisters : Registers → List Cell
 cellsOfRegisters s = map registerCell (s .cells)
 
-abbrev pub holding : Value → Register
-holding v = record { value = v }
+abbrev pub registerOf : Value → Register
+registerOf v = record { value = v }
 
 -- what a register holds at first
 abbrev pub unset : Register
-unset = holding Uninitialized
+unset = registerOf Uninitialized
 
 -- the value that its cell's words spell
 pub record GoodValue (v : Value) : Type 0 where

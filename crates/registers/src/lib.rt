@@ -8,7 +8,7 @@ ghost use Prim.Native.Nat.{_<_};
 ghost use lib.ListN.{getD, replicate, set};
 ghost use Rattle.model.specs.Records.{blank, cellWords, wholeCells};
 ghost use Rattle.model.specs.Calls.{cellsIn};
-ghost use Rattle.registers.specs.Cells.{holding, unset, cellsOfRegisters, Good};
+ghost use Rattle.registers.specs.Cells.{registerOf, unset, cellsOfRegisters, Good};
 
 // A struct's array may hold structs, and no enums: so each value stands in a struct.
 pub struct Register {
@@ -44,7 +44,7 @@ impl Registers {
 
     pub fn set(mut self, r: usize, v: Value) -> Self
         requires { ⌜ r < 16 ⌝ }
-        ensures { λ s. ⌜ s .cells ≡ set (self .cells) r (holding v) ⌝ }
+        ensures { λ s. ⌜ s .cells ≡ set (self .cells) r (registerOf v) ⌝ }
     {
         let x = Register { value: v };
         self.cells[r] = x;

@@ -1,5 +1,5 @@
 use mathlib.Core.List.{[], _∷_}
-use Prim.Native.Nat.{_+_, _≤_}
+use Prim.Native.Nat.{_+_, _*_, _≤_}
 use native.Mathlib.Omega.{arith}
 use lib.ListN.{length}
 use mir.Syntax.{w64}
@@ -8,6 +8,7 @@ use mir.ValLaws.{toZ-ofZ}
 use borrow.Author.Needs.{needs}
 use Rattle.model.specs.Listing.{allocWord, lineText}
 use Rattle.figure.proofs.Writes.{wrote-both}
+use Rattle.lines.specs.Longest.{longestSpaced}
 use Rattle.lines.proofs.Loops.{spaced-length}
 use Rattle.lines.proofs.Lengths.{signed-length}
 use Rattle.lines.proofs.alloc_text.Statement.{statement}
@@ -29,7 +30,7 @@ each-spaced-requires : tie.Need-each-spaced-requires
 each-spaced-requires c κs = search needs
 
 -- what the pointer leaves of the room
-room-left : (c : tie.After-each-spaced) → c .each-spaced .result + 106 ≤ length (c .each-spaced .last .1 .0)
+room-left : (c : tie.After-each-spaced) → c .each-spaced .result + (1 + 5 * longestSpaced) ≤ length (c .each-spaced .last .1 .0)
 room-left c =
     let p = c .before .before .before .before .before .before .before .before .before .before .before .before .before .args .a .pointer in
     omega (arith, c .each-spaced .ensures .behind, spaced-length (p .heap ∷ p .base ∷ []), c .before .before .before .before .before .before .word .ensures .behind)
