@@ -23,7 +23,7 @@ use Rattle.barrier.proofs.Steps.{Steps, steps-in, steps-out}
 use Rattle.fields.specs.Fields.{Reads, Turns, withBar, withOldBar, barOf, onBar, withCount}
 use Rattle.fields.proofs.Parts.{decoded}
 use Rattle.fields.proofs.Counts.{bar-fit}
-use Rattle.access.specs.Counting.{goneIf, crosses, placeOf, countFrom, countOf, recounted, onCounts, Leaves, done, kept}
+use Rattle.access.specs.Counting.{goneIf, crosses, placeOf, countFrom, countOf, storing, recounted, onCounts, Leaves, done, kept}
 use Rattle.access.specs.declared.Stored.{Stored}
 use Rattle.access.specs.declared.Stored.the-variants.{Done, Refused}
 use Rattle.access.proofs.Crossing.{bar-same}
@@ -113,6 +113,9 @@ counts-in own = counts-by (steps-in own) up-from
 pub counts-out : (own : ℕ) → Counts own (countOut own)
 counts-out own = counts-by (steps-out own) down-from
 
+pub leaves-as : {m n : Res Heap} {w v : List ℕ} {r : Stored} → m ≡ n → Leaves m w r v → Leaves n w r v
+leaves-as {w = w} {v = v} {r = r} e = subst (λ (x : Res Heap). Leaves x w r v) e
+
 -- the image after a step whose count was stored
 
 abbrev Stores : ℕ → Cell → Barrier → List ℕ → List ℕ → Type 0
@@ -121,19 +124,32 @@ Stores own c d w v = Turns (λ h. onBar own (countOf own c d (barOf own h)) h) w
 step-image : {own : ℕ} {f : Cell → Barrier → Res Barrier} → Counts own f → {w v : List ℕ} {h : Heap} → Image w h → (c : Cell) {d : Barrier} → f c (barOf own h) ≡ ok d → Stores own c d w v → Image v (onBar own d h)
 step-image {own} k {h = h} i c {d} e t = rw (k .from c (barOf own h) d (bar-fit i own) e) at (t .turns h i)
 
+-- what a step came to, stored
+module _ {w : List ℕ} (own : ℕ) (c : Cell) (r : Counted) where
+  pub step-kept : (q : ℕ) → r .answer ≡ counting.Refused q → Leaves (storing own c (counted r) (decode w)) w (Refused q) w
+  unfolding storing
+  step-kept q e = rw (step-refused r refl q e) kept
+
+  pub step-stored : Image w (decode w) → r .answer ≡ counting.Done → {v : List ℕ} → Stores own c (barrierOf (r .barrier)) w v → Leaves (storing own c (counted r) (decode w)) w Done v
+  unfolding storing
+  step-stored i e t = rw (step-done r refl e) (done (t .turns (decode w) i))
+
 module _ {w : List ℕ} (i : Image w (decode w)) (own : ℕ) {b : Barrier} (r : Reads (λ h. barOf own h) w b) where
   was : barOf own (decode w) ≡ b
   was = r .reads (decode w) i
 
-  -- one step
-  module _ {f : Cell → Barrier → Res Barrier} (k : Counts own f) (c : Cell) where
-    pub alone-refused : (q : ℕ) → f c b ≡ refuse q → Leaves (onCounts own (f c) (decode w)) w (Refused q) w
-    unfolding onCounts
-    alone-refused q e = rw (was, e) kept
+  fit : FitBarrier b
+  fit = rw was at (bar-fit i own)
 
-    pub alone-stored : {d : Barrier} {v : List ℕ} → f c b ≡ ok d → Stores own c d w v → Leaves (onCounts own (f c) (decode w)) w Done v
-    unfolding onCounts
-    alone-stored e t = rw (was, e) (done (step-image k i c (rw was e) t))
+  -- one step
+  pub alone : {f : Cell → Barrier → Res Barrier} → Counts own f → (c : Cell) {m : Res Barrier} → m ≡ f c b → {r : Stored} {v : List ℕ}
+      → Leaves (storing own c m (decode w)) w r v → Leaves (onCounts own (f c) (decode w)) w r v
+  unfolding storing onCounts
+  alone {f} k c e l = leaves-as (rw (e, was) (go (f c b) refl)) l
+    where
+      go : (m : Res Barrier) → f c b ≡ m → (m >>= λ d. ok (onBar own (countOf own c d b) (decode w))) ≡ (m >>= λ d. ok (onBar own d (decode w)))
+      go (ok d) q = rw (k .from c b d fit q)
+      go (refuse q) e = refl
 
   -- the old cell out, then the new one in
   module _ (old new : Cell) where
@@ -160,9 +176,6 @@ module _ {w : List ℕ} (i : Image w (decode w)) (own : ℕ) {b : Barrier} (r : 
         unfolding onCounts recounted
         both-stored {e = e} n s =
             rw (was, o, n) (done (rw (bar-over own e d (decode w)) at (step-image (counts-in own) out-image new (rw (bar-on own d (decode w)) n) s)))
-
-pub leaves-as : {m n : Res Heap} {w v : List ℕ} {r : Stored} → m ≡ n → Leaves m w r v → Leaves n w r v
-leaves-as {w = w} {v = v} {r = r} e = subst (λ (x : Res Heap). Leaves x w r v) e
 
 -- cells that do not count
 

@@ -51,6 +51,10 @@ countOf own c d b = elim (crosses own c) [ true ↦ countFrom (placeOf c) d b | 
 unfoldable pub onCounts : ℕ → (Barrier → Res Barrier) → Heap → Res Heap
 onCounts own f h = f (barOf own h) >>= λ b. ok (onBar own b h)
 
+-- what a step on it came to, of which only the count of the cell c is stored
+unfoldable pub storing : ℕ → Cell → Res Barrier → Heap → Res Heap
+storing own c step h = step >>= λ d. ok (onBar own (countOf own c d (barOf own h)) h)
+
 unfoldable pub countYoung : Bool → Cell → Cell → Heap → Res Heap
 countYoung out old new h = recounted 0 out old new (h .young .bar) >>= λ b. ok (onYoung (withBar b) h)
 

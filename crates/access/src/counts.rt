@@ -1,6 +1,7 @@
 // What a write counts, by the barrier's own steps. The barrier is long, and each step copies it: it is loaded only where a cell
 // counts, a step is made only for a cell that does, and of the counts only those that changed are stored.
 use crate::Stored;
+use barrier::Counted;
 use barrier::Counting;
 use barrier::WriteBarrier;
 use value::Value;
@@ -10,9 +11,9 @@ ghost use Rattle.model.specs.Barrier.{countIn, countOut};
 ghost use Rattle.model.specs.Image.{decode};
 ghost use Rattle.theorems.specs.Fit.{Image};
 ghost use Rattle.value.specs.Value.{valueCell};
-ghost use Rattle.barrier.specs.Counts.{barrierOf};
+ghost use Rattle.barrier.specs.Counts.{barrierOf, counted};
 ghost use Rattle.fields.specs.Fields.{Turns, barOf, onBar};
-ghost use Rattle.access.specs.Counting.{goneIf, crosses, countOf, recounted, onCounts, Leaves};
+ghost use Rattle.access.specs.Counting.{goneIf, crosses, countOf, storing, recounted, onCounts, Leaves};
 
 // What is counted out: the old value only if `out`.
 fn counted_out(out: bool, old: Value) -> Value
@@ -48,20 +49,27 @@ fn store_count(image: &mut [u64], own: u8, v: Value, b: WriteBarrier)
     fields::put_count(image, own, at, n as u64);
 }
 
-// One cell counts: its step on the barrier, and the count that it changed.
+// What a step on the barrier came to: the count of its value stored, or its refusal.
+fn store_step(image: &mut [u64], own: u8, v: Value, step: Counted) -> Stored
+    requires { ⌜ Image (now image) (decode (now image)) ⌝ }
+    ensures { λ r. ⌜ Leaves (storing own (valueCell v) (counted step) (decode (now (image .entry)))) (now (image .entry)) r (now (image .exit)) ⌝ }
+{
+    let a = step.answer;
+    if let Counting::Refused(q) = a {
+        return Stored::Refused(q);
+    }
+    let b = step.barrier;
+    store_count(image, own, v, b);
+    Stored::Done
+}
+
+// One value counts.
 fn count_in_alone(image: &mut [u64], own: u8, new: Value) -> Stored
     requires { ⌜ Image (now image) (decode (now image)) ⌝ }
     ensures { λ r. ⌜ Leaves (onCounts own (countIn own (valueCell new)) (decode (now (image .entry)))) (now (image .entry)) r (now (image .exit)) ⌝ }
 {
     let b = fields::barrier_of(image, own);
-    let come = b.count_in(own, new);
-    let a = come.answer;
-    if let Counting::Refused(q) = a {
-        return Stored::Refused(q);
-    }
-    let next = come.barrier;
-    store_count(image, own, new, next);
-    Stored::Done
+    store_step(image, own, new, b.count_in(own, new))
 }
 
 fn count_out_alone(image: &mut [u64], own: u8, old: Value) -> Stored
@@ -69,14 +77,7 @@ fn count_out_alone(image: &mut [u64], own: u8, old: Value) -> Stored
     ensures { λ r. ⌜ Leaves (onCounts own (countOut own (valueCell old)) (decode (now (image .entry)))) (now (image .entry)) r (now (image .exit)) ⌝ }
 {
     let b = fields::barrier_of(image, own);
-    let gone = b.count_out(own, old);
-    let a = gone.answer;
-    if let Counting::Refused(q) = a {
-        return Stored::Refused(q);
-    }
-    let next = gone.barrier;
-    store_count(image, own, old, next);
-    Stored::Done
+    store_step(image, own, old, b.count_out(own, old))
 }
 
 // Both count. Nothing is stored before both steps have got their answer.

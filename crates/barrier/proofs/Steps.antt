@@ -1,6 +1,6 @@
 -- A count step against the model's.
 use mathlib.Core.Path.{_≡_, refl, ap, _∙_}
-use mathlib.Core.Bool.{true, false}
+use mathlib.Core.Bool.{Bool, true, false}
 use mathlib.Core.List.{[], _∷_}
 use Prim.Native.Nat.{ℕ, _+_, _-_, _%_, _<_, _≤_}
 use native.Mathlib.Omega.{arith}
@@ -19,7 +19,7 @@ use Rattle.value.specs.declared.Value.{Value}
 use Rattle.value.specs.declared.Value.the-variants.{Uninitialized, Int, Bool as BoolV, Float as FloatV, Char, Pointer as PointerV}
 use Rattle.value.specs.Value.{valueCell}
 use Rattle.barrier.specs.declared.WriteBarrier.{WriteBarrier}
-use Rattle.barrier.specs.Counts.{barrierIf, barrierOf}
+use Rattle.barrier.specs.Counts.{barrierIf, barrierOf, stepOf}
 
 -- A step counts a pointer to another heap, and nothing else: what countIn and countOut share
 pub record Steps (own : ℕ) (f : Cell → Barrier → Res Barrier) (g : ℕ → Barrier → Res Barrier) : Type 0 where
@@ -33,6 +33,15 @@ steps-in own = record { of-plain = λ k v b. refl; of-ref = λ p b. refl }
 pub steps-out : (own : ℕ) → Steps own (countOut own) down
 unfolding countOut
 steps-out own = record { of-plain = λ k v b. refl; of-ref = λ p b. refl }
+
+abbrev stepAt : Bool → ℕ → Barrier → Res Barrier
+stepAt true = up
+stepAt false = down
+
+pub steps-of : (into : Bool) (own : ℕ) → Steps own (stepOf into own) (stepAt into)
+unfolding stepOf
+steps-of true = steps-in
+steps-of false = steps-out
 
 module _ {own : ℕ} {f : Cell → Barrier → Res Barrier} {g : ℕ → Barrier → Res Barrier} (s : Steps own f g) (b : Barrier) where
   pub step-plain : (v : Value) → OneOf (0 ∷ 1 ∷ 2 ∷ 3 ∷ 4 ∷ []) (tagOf the-type v) → ok b ≡ f (valueCell v) b

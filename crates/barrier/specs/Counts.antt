@@ -6,7 +6,8 @@ use Prim.Native.Nat.{ℕ, _%_, _/_}
 use lib.Dec.{eqb}
 use lib.ListN.{take}
 use Rattle.model.specs.Res.{Res, ok, refuse}
-use Rattle.model.specs.Barrier.{Barrier, absent, present}
+use Rattle.model.specs.Records.{Cell}
+use Rattle.model.specs.Barrier.{Barrier, absent, present, countIn, countOut}
 use Rattle.barrier.specs.declared.WriteBarrier.{WriteBarrier}
 use Rattle.barrier.specs.declared.Counting.{Counting}
 use Rattle.barrier.specs.declared.Counting.the-variants.{Done, Refused}
@@ -31,6 +32,11 @@ countingAnswer (Refused q) = refuse q
 
 abbrev pub counted : Counted → Res Barrier
 counted c = answerOf (c .answer) (c .barrier)
+
+-- a cell counted in, or out
+unfoldable pub stepOf : Bool → ℕ → Cell → Barrier → Res Barrier
+stepOf true own = countIn own
+stepOf false own = countOut own
 
 -- the barrier that a step hands back: what it made, or after a refusal the barrier as it came
 abbrev pub handed : Res Barrier → Barrier → Barrier

@@ -9,10 +9,9 @@ ghost use Prim.Native.Nat.{_+_, _<_};
 ghost use lib.ListN.{length, getD};
 ghost use Rattle.model.specs.Res.{each};
 ghost use Rattle.model.specs.Records.{validWords, wholeCells};
-ghost use Rattle.model.specs.Barrier.{countIn, countOut};
 ghost use Rattle.model.specs.Calls.{cellsIn};
 ghost use Rattle.value.specs.Value.{Spelled};
-ghost use Rattle.barrier.specs.Counts.{barrierOf, HandsBack, crossing, anyCrossing};
+ghost use Rattle.barrier.specs.Counts.{barrierOf, stepOf, HandsBack, crossing, anyCrossing};
 
 // Whether a cell with this first word counts. Tested first, since each count step copies the barrier.
 fn crosses(tag: u64, own: u8) -> bool
@@ -43,41 +42,17 @@ pub fn any_crosses(cells: &[u64], own: u8) -> bool
     false
 }
 
-pub fn count_cells_in(cells: &[u64], own: u8, barrier: WriteBarrier) -> Counted
+// Each counted in, or out.
+pub fn count_cells(cells: &[u64], own: u8, into: bool, barrier: WriteBarrier) -> Counted
     requires { ⌜ wholeCells (now cells) ≡ true ⌝ }
-    ensures { λ r. ⌜ HandsBack (each (countIn own) (cellsIn (now (cells .entry))) (barrierOf barrier)) (barrierOf barrier) r ⌝ }
+    ensures { λ r. ⌜ HandsBack (each (stepOf into own) (cellsIn (now (cells .entry))) (barrierOf barrier)) (barrierOf barrier) r ⌝ }
 {
     let mut b = barrier;
     let mut i = 0;
     while i < cells.len() {
         if crosses(cells[i], own) {
             let v = value_at(cells, i);
-            let c = b.count_in(own, v);
-            let a = c.answer;
-            let Counting::Done = a else {
-                return Counted { answer: a, barrier };
-            };
-            let next = c.barrier;
-            b = next;
-        }
-        i += 3;
-    }
-    Counted {
-        answer: Counting::Done,
-        barrier: b,
-    }
-}
-
-pub fn count_cells_out(cells: &[u64], own: u8, barrier: WriteBarrier) -> Counted
-    requires { ⌜ wholeCells (now cells) ≡ true ⌝ }
-    ensures { λ r. ⌜ HandsBack (each (countOut own) (cellsIn (now (cells .entry))) (barrierOf barrier)) (barrierOf barrier) r ⌝ }
-{
-    let mut b = barrier;
-    let mut i = 0;
-    while i < cells.len() {
-        if crosses(cells[i], own) {
-            let v = value_at(cells, i);
-            let c = b.count_out(own, v);
+            let c = b.count(own, into, v);
             let a = c.answer;
             let Counting::Done = a else {
                 return Counted { answer: a, barrier };

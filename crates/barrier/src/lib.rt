@@ -8,7 +8,7 @@ ghost use mathlib.Core.Path.{_≡_};
 ghost use Prim.Native.Nat.{_%_};
 ghost use Rattle.model.specs.Barrier.{absent, countIn, countOut};
 ghost use Rattle.value.specs.Value.{valueCell};
-ghost use Rattle.barrier.specs.Counts.{barrierOf, HandsBack};
+ghost use Rattle.barrier.specs.Counts.{barrierOf, stepOf, HandsBack};
 
 // The counts of an absent barrier are taken as zero, whatever the array holds.
 pub struct WriteBarrier {
@@ -114,6 +114,17 @@ impl WriteBarrier {
         Counted {
             answer: Counting::Done,
             barrier: self,
+        }
+    }
+
+    // Either step.
+    pub fn count(self, own: u8, into: bool, v: Value) -> Counted
+        ensures { λ r. ⌜ HandsBack (stepOf into own (valueCell v) (barrierOf self)) (barrierOf self) r ⌝ }
+    {
+        if into {
+            self.count_in(own, v)
+        } else {
+            self.count_out(own, v)
         }
     }
 

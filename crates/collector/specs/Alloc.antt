@@ -1,5 +1,4 @@
 -- Alloc's answers in the model, and the parts in which it is done.
-use mathlib.Core.Path.{_≡_}
 use mathlib.Core.Bool.{false}
 use mathlib.Core.List.{List, [], _∷_}
 use Prim.Native.Nat.{ℕ, _/_}
@@ -21,7 +20,6 @@ use Rattle.cycle.specs.Outcomes.{outcomeAnswer}
 use Rattle.cycle.specs.declared.turns.Request.the-variants.{New}
 use Rattle.cycle.specs.declared.turns.Gave.{Gave}
 use Rattle.cycle.specs.declared.turns.Outcome as turns
-use Rattle.collector.specs.declared.Allocation.{Allocation}
 use Rattle.collector.specs.declared.Allocated.{Allocated}
 use Rattle.collector.specs.declared.Allocated.the-variants.{At, Refused}
 

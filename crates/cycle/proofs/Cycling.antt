@@ -6,12 +6,10 @@ use Prim.Native.Nat.{ℕ, zero, suc, _+_, _*_, _/_, _≤_, _<_}
 use native.Mathlib.Omega.{arith}
 use lib.Dec.{leb, eqb}
 use lib.ListN.{length}
-use Rattle.model.specs.Res.{Res, ok, refuse, _>>=_, each}
-use Rattle.model.specs.Records.{Cell, whole}
-use Rattle.model.specs.Barrier.{masks}
+use Rattle.model.specs.Res.{Res, ok, _>>=_, each}
 use Rattle.model.specs.Heap.{Sizes, Heap, held}
-use Rattle.model.specs.Image.{imageLength, decode}
-use Rattle.model.specs.Calls.{cellsIn, scratchLength}
+use Rattle.model.specs.Image.{decode}
+use Rattle.model.specs.Calls.{cellsIn}
 use Rattle.theorems.specs.Fit.{Image}
 use Rattle.theorems.specs.Does.{Does}
 use Rattle.theorems.proofs.Does.{answered, does-then, does-refused, does-same}
@@ -30,7 +28,7 @@ use Rattle.cycle.specs.Scratch.{oldListAt, partsIn, Front, SweptIn, Coll
 use Rattle.cycle.specs.Turns.{Turn, pick, give, giveIn, tooLarge, mustCollect, alsoSwept, sweepAndGive, againTurn, pushOne, none, finished, collectAndPush, pushTurn, turn}
 use Rattle.cycle.specs.Outcomes.{Asked, Ready, Ran, Gives, outcomeAnswer, gaveTurn, sweptOutcome, keptTo}
 use Rattle.cycle.proofs.Doing.{mapRes, does-map}
-use Rattle.cycle.proofs.Frames.{front-less, young-same, parts-same, saved-same}
+use Rattle.cycle.proofs.Frames.{young-same, parts-same, saved-same}
 use Rattle.cycle.proofs.Pushing.{Begun}
 use Rattle.cycle.proofs.Turning.{turn-last, push-collected, sweep-few}
 

@@ -1,17 +1,16 @@
 -- What stays in scratch.
-use mathlib.Core.Path.{_≡_, refl, sym, ap, _∙_}
+use mathlib.Core.Path.{_≡_, sym, ap, _∙_}
 use mathlib.Core.List.{List, [], _∷_, _++_}
-use Prim.Native.Nat.{ℕ, zero, suc, _+_, _*_, _≤_, _<_}
+use Prim.Native.Nat.{ℕ, _+_, _*_, _≤_, _<_}
 use native.Mathlib.Nat.{zero-add}
 use native.Mathlib.Numerals.{add-one}
 use native.Mathlib.Omega.{arith}
-use lib.ListN.{length, getD, set, take, drop}
-use lib.Seq.{take-take, take-add, drop-append-seam, getD-take, getD-drop, getD-set-same, getD-set-other}
-use Rattle.model.specs.Records.{Ptr}
+use lib.ListN.{length, getD, take, drop}
+use lib.Seq.{take-take, take-add, drop-append-seam, getD-take}
 use Rattle.model.specs.Heap.{Sizes}
 use Rattle.model.specs.Image.{imageLength}
 use Rattle.image.specs.Places.{lengthsAt, youngCellsAt}
-use Rattle.trace.specs.Words.{tab, ptrAt, members}
+use Rattle.trace.specs.Words.{ptrAt, members}
 use Rattle.trace.proofs.Entries.{tab-snoc, tab-ext}
 use Rattle.pointers.specs.Steps.{moveAt, movesIn}
 use Rattle.cycle.specs.Scratch.{youngIn, partsIn, Saved, Front}
@@ -50,10 +49,6 @@ module _ (n : ℕ) (x y : List ℕ) (e : (j : ℕ) → j < 3 * n → getD x j 0 
   pub entry-same : (i : ℕ) → i < n → ptrAt x i ≡ ptrAt y i
   unfolding ptrAt
   entry-same i l = rw (e (3 * i) (omega arith), e (3 * i + 1) (omega arith), e (3 * i + 2) (omega arith))
-
-  pub members-same : members n x ≡ members n y
-  unfolding members
-  members-same = tab-ext (ptrAt x) (ptrAt y) 0 n (λ k l. entry-same k (omega arith))
 
   pub moves-same : (a b : List ℕ) → ((j : ℕ) → j < n → getD a j 0 ≡ getD b j 0) → movesIn n x a ≡ movesIn n y b
   unfolding movesIn moveAt

@@ -1,14 +1,14 @@
 -- A generation that gives, and one that has to be collected first.
-use mathlib.Core.Path.{_≡_, refl, sym, ap, _∙_}
-use mathlib.Core.Bool.{Bool, true, false, not, _&&_}
+use mathlib.Core.Path.{_≡_, sym, ap}
+use mathlib.Core.Bool.{Bool, true, false, not}
 use mathlib.Core.List.{List}
 use Prim.Native.Nat.{ℕ, _-_, _<_}
-use lib.Dec.{ltb, leb, eqb}
+use lib.Dec.{ltb, leb}
 use lib.ListN.{getD}
 use borrow.Author.Tests.{ltb-true, not-false, ne-eqb}
-use Rattle.model.specs.Res.{Res, ok, refuse, _>>=_}
+use Rattle.model.specs.Res.{Res, _>>=_}
 use Rattle.model.specs.Records.{Cell, whole}
-use Rattle.model.specs.Heap.{Sizes, Heap, held}
+use Rattle.model.specs.Heap.{Heap, held}
 use Rattle.model.specs.Image.{decode}
 use Rattle.model.specs.Nursery.{bump}
 use Rattle.theorems.specs.Fit.{Image}
@@ -26,9 +26,9 @@ use Rattle.cycle.specs.declared.turns.Gave.{Gave}
 use Rattle.cycle.specs.declared.turns.Outcome.{Outcome}
 use Rattle.cycle.specs.declared.turns.Outcome.the-variants.{At, Refused}
 use Rattle.cycle.specs.Scratch.{youngIn}
-use Rattle.cycle.specs.Turns.{pick, at, inElder, give, bumped, tooLarge, mustCollect, giveIn}
+use Rattle.cycle.specs.Turns.{at, inElder, give, bumped, tooLarge, mustCollect, giveIn}
 use Rattle.cycle.specs.Outcomes.{Asked, Gives, gaveAt, gaveTurn, outcomeAnswer, placedOutcome}
-use Rattle.cycle.proofs.Doing.{mapRes, does-map}
+use Rattle.cycle.proofs.Doing.{does-map}
 
 -- has it to be collected first?
 

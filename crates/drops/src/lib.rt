@@ -42,7 +42,7 @@ pub fn count_dropped(
     while b < lens.len() {
         let end = at + 3 * lens[b] as usize;
         if is_counted(&cells[at..end], b, list, count) {
-            let c = cells::count_cells_out(&cells[at..end], 1, bar);
+            let c = cells::count_cells(&cells[at..end], 1, false, bar);
             let a = c.answer;
             let Counting::Done = a else {
                 return Counted { answer: a, barrier };

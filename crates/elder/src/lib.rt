@@ -150,7 +150,7 @@ fn count_in(image: &mut [u64], src: &[u64]) -> Counting
     if !cells::any_crosses(src, 1) {
         return Counting::Done;
     }
-    let c = cells::count_cells_in(src, 1, fields::old_barrier(image));
+    let c = cells::count_cells(src, 1, true, fields::old_barrier(image));
     let a = c.answer;
     match a {
         Counting::Done => {

@@ -1,8 +1,7 @@
 -- The image after each operation is that of the heap which the model's step leaves.
 use mathlib.Core.Path.{_≡_, refl, sym, ap, _∙_}
 use mathlib.Core.Bool.{Bool, true, false, true≢false}
-use mathlib.Core.Logic.{⊎-elim}
-use mathlib.Core.List.{List, [], _∷_}
+use mathlib.Core.List.{List, [], _∷_, append-nil}
 use Prim.Native.Nat.{ℕ, zero, suc, _+_, _-_, _*_, _≤_, _<_}
 use native.Mathlib.Nat.{not-suc-le-zero, le-of-suc-le-suc, sub-zero}
 use native.Mathlib.Numerals.{add-one}
@@ -11,16 +10,15 @@ use lib.ListN.{length, getD, take, drop, set, replicate, length-set, length-repl
 use lib.Seq.{paste}
 use borrow.Rule.Slice.PartMut.{putMid, set-mid-at}
 use Rattle.model.specs.Lists.{flat}
-use Rattle.model.specs.Records.{Cell, blank, cellWords, valid, allValid, wholeCells}
+use Rattle.model.specs.Records.{Cell, blank, cellWords, wholeCells}
 use Rattle.model.specs.Barrier.{Barrier, absent, present, cache, most, counts}
 use Rattle.model.specs.Heap.{Nursery, Elder, Heap, fresh}
 use Rattle.model.specs.Image.{flag, barrier, encode, decode, flagged}
 use Rattle.model.specs.Nursery.{bump, emptied}
 use Rattle.theorems.specs.Fit.{FitBarrier, FitNursery, FitElder, Fit, Image}
 use Rattle.theorems.specs.Does.{withYoung, withOld}
-use Rattle.theorems.proofs.Lists.{and-left}
-use Rattle.theorems.proofs.Cells.{kindWord, payloadWord, offsetWord, words-cons, words-length, cell-words, cell-valid}
-use Rattle.theorems.proofs.Contents.{cell-set-from, valid-all, all-valid}
+use Rattle.theorems.proofs.Cells.{words-cons, words-length, cell-pasted, one-cell}
+use Rattle.theorems.proofs.Contents.{valid-set}
 use Rattle.theorems.proofs.Tiles.{zeros-tiled}
 use Rattle.theorems.proofs.Barrier.{absent-fit}
 use Rattle.theorems.proofs.Regions.{barrier-back, fit-flagged}
@@ -115,27 +113,6 @@ cell-words-at (c ∷ cs) (suc i) h =
     let e₂ : suc (suc (suc (3 * i))) + 2 ≡ suc (suc (suc (3 * i + 2))) = omega arith in
     rw (e₀, e₁, e₂, words-cons c cs) (cell-words-at cs i (le-of-suc-le-suc h))
 
-cell-pasted : (cs : List Cell) (i : ℕ) (c : Cell) → i < length cs → paste (cellWords cs) (3 * i) (cellWords (c ∷ [])) 3 ≡ cellWords (set cs i c)
-unfolding cellWords
-cell-pasted [] i c h = absurd (not-suc-le-zero h)
-cell-pasted (x ∷ cs) zero c h = rw (words-cons x cs, words-cons c [], words-cons c cs)
-cell-pasted (x ∷ cs) (suc i) c h =
-    let e₀ : 3 * suc i ≡ suc (suc (suc (3 * i))) = omega arith in
-    let e₁ : suc (suc (suc (3 * i))) + 3 ≡ suc (suc (suc (3 * i + 3))) = omega arith in
-    rw (e₀, e₁, words-cons x cs, words-cons x (set cs i c)) (ap (λ (l : List ℕ). kindWord x ∷ payloadWord x ∷ offsetWord x ∷ l) (cell-pasted cs i c (le-of-suc-le-suc h)))
-
--- three words that are a valid cell's
-cell-is : (w : List ℕ) → length w ≡ 3 → wholeCells w ≡ true → (w ≡ cellWords (cellIn w ∷ [])) × (valid (cellIn w) ≡ true)
-unfolding wholeCells cellWords
-cell-is (a ∷ b ∷ o ∷ []) l e = let v = and-left _ _ e in (sym (cell-words a b o [] v), cell-valid a b o v)
-cell-is [] l e = absurd (omega arith)
-cell-is (a ∷ []) l e = absurd (omega arith)
-cell-is (a ∷ b ∷ []) l e = absurd (omega arith)
-cell-is (a ∷ b ∷ o ∷ x ∷ w) l e = absurd (omega arith)
-
-valid-set : (cs : List Cell) (i : ℕ) (c : Cell) → allValid cs ≡ true → valid c ≡ true → allValid (set cs i c) ≡ true
-valid-set cs i c v u = valid-all (set cs i c) (λ x m. ⊎-elim (all-valid cs v x) (λ q. rw q u) (cell-set-from cs i c m))
-
 pub part-found : {w : List ℕ} {n s : ℕ} (p : Part) → Image w (decode w) → Reads (λ h. h .size .n) w n → Reads (λ h. h .size .s) w s
     → p .from ≡ youngCellsAt n s → p .end ≡ oldCellsAt n s → YoungCells w p
 part-found p i a b e f =
@@ -162,9 +139,9 @@ module _ {w : List ℕ} (p : Part) (y : YoungCells w p) (i : ℕ) (small : i < d
   cell-put cell {ys} l e q = record {
     turns = λ h g.
         let z = g .fit .young in
-        let (is, good) = cell-is cell l e in
+        let (is, good) = one-cell cell l e in
         let put : ys ≡ cellWords (set (h .young .cells) i (cellIn cell)) =
-        q ∙ rw (young-cells g p y, l) (ap (λ (u : List ℕ). paste (cellWords (h .young .cells)) (3 * i) u 3) is ∙ cell-pasted (h .young .cells) i (cellIn cell) (below g)) in
+        q ∙ rw (young-cells g p y, l) (ap (λ (u : List ℕ). paste (cellWords (h .young .cells)) (3 * i) u 3) is ∙ (rw (append-nil, append-nil) at (cell-pasted (h .young .cells) [] i (cellIn cell) (below g)))) in
         record {
           is = rw (young-cells-put g ys p y, put) (sym (encode-parts (onYoung (withCell i (cellIn cell)) h)));
           fit = young-fit _ (g .fit) (record {

@@ -3,7 +3,7 @@ use mathlib.Core.Path.{_≡_, refl, sym, ap, _∙_}
 use mathlib.Core.Bool.{Bool, true, false}
 use mathlib.Core.List.{List, [], _∷_, _++_, append-nil}
 use mathlib.Core.Option.{Option, none, some}
-use Prim.Native.Nat.{ℕ, suc, _+_, _-_, _≤_, _<_}
+use Prim.Native.Nat.{ℕ, suc, _+_, _-_, _≤_}
 use native.Mathlib.Omega.{arith}
 use lib.Dec.{leb}
 use lib.ListN.{length, take, drop, length-drop}
@@ -93,13 +93,6 @@ module _ (file : List ℕ) (at : ℕ) where
     where
       go : {w : List ℕ} {q : ℕ} → Found (length file) w (refuse q) → parseAll w ≡ ([], w)
       go (malformed {b = b} {w = w} e) = stop b w e
-
-  -- what is refused is some byte
-  pub refused-within : {q : ℕ} → refuse q ≡ nextAt file at → at < length file
-  refused-within e = go refl (found-at e)
-    where
-      go : {w : List ℕ} {q : ℕ} → drop at file ≡ w → Found (length file) w (refuse q) → at < length file
-      go p (malformed e) = omega (arith, length-drop at file, ap length p)
 
 pub read-none : (file : List ℕ) → ReadTo file [] 0
 read-none file = record { within = omega arith; whole = refl }

@@ -1,23 +1,21 @@
 -- One cell written.
 use mathlib.Core.Path.{_≡_, refl, sym, ap, _∙_}
 use mathlib.Core.Bool.{true}
-use mathlib.Core.Logic.{⊎-elim}
 use mathlib.Core.List.{List, [], _∷_, _++_, map}
 use Prim.Native.Nat.{ℕ, zero, suc, _+_, _*_, _^_, _≤_, _<_}
-use native.Mathlib.Nat.{not-suc-le-zero, le-of-suc-le-suc, zero-add}
+use native.Mathlib.Nat.{not-suc-le-zero, zero-add}
 use native.Mathlib.Omega.{arith}
 use mir.Val.{Fits}
 use mir.Syntax.{w64}
 use lib.ListN.{length, getD, set, take, drop, length-append, length-drop, length-set}
 use lib.Seq.{paste, set-append-left, map-set-same}
 use Rattle.model.specs.Lists.{flat, sum}
-use Rattle.model.specs.Records.{Cell, cellWords, cellOf, cellsOf, valid, allValid, wholeCells}
+use Rattle.model.specs.Records.{Cell, cellWords, valid, allValid, wholeCells}
 use Rattle.model.specs.Heap.{inUse}
-use Rattle.model.specs.Calls.{cellsIn}
-use Rattle.theorems.proofs.Cells.{words-cons, words-length, in-of, whole-back, whole-valid}
-use Rattle.theorems.proofs.Contents.{valid-all, all-valid, cell-set-from}
+use Rattle.theorems.proofs.Cells.{words-length, cell-pasted, one-cell}
+use Rattle.theorems.proofs.Contents.{valid-all, all-valid, valid-set}
 use Rattle.theorems.proofs.Elder.{in-range}
-use Rattle.theorems.proofs.Lists.{and-left, flat-in}
+use Rattle.theorems.proofs.Lists.{flat-in}
 use Rattle.words.specs.Words.{padded}
 use Rattle.slots.specs.Slots.{Elder, Changed, slotsAt, written}
 use Rattle.slots.proofs.Flat.{use-split}
@@ -25,15 +23,6 @@ use Rattle.slots.proofs.Counts.{packed-start, packed-size}
 use Rattle.slots.proofs.Parts.{lent, returned, lent-is, lent-length, returned-is}
 use Rattle.slots.proofs.Changes.{changed}
 use Rattle.slots.proofs.Places.{set-valid}
-
-paste-cell : (cs : List Cell) (z : List ℕ) (i : ℕ) (c : Cell) → i < length cs → paste (cellWords cs ++ z) (3 * i) (cellWords (c ∷ [])) 3 ≡ cellWords (set cs i c) ++ z
-unfolding cellWords
-paste-cell [] z i c h = absurd (not-suc-le-zero h)
-paste-cell (x ∷ cs) z zero c h = rw (words-cons x cs, words-cons c [], words-cons c cs)
-paste-cell (x ∷ cs) z (suc i) c h =
-    let e : 3 * suc i + 3 ≡ suc (suc (suc (3 * i + 3))) = omega arith in
-    let f : 3 * suc i ≡ suc (suc (suc (3 * i))) = omega arith in
-    rw (e, f, words-cons x cs, words-cons x (set cs i c), ← paste-cell cs z i c (le-of-suc-le-suc h))
 
 set-behind : (a b : List Cell) (i : ℕ) (c : Cell) → set (a ++ b) (length a + i) c ≡ a ++ set b i c
 set-behind [] b i c = rw zero-add
@@ -72,7 +61,7 @@ module _ {s at : ℕ} {w : List ℕ} {ss : List (List Cell)} (v : Elder s at w s
         let i : ℕ = length (flat (take b ss)) + o in
         let place : f + o ≡ i = omega (arith, packed-start (v .packed) b) in
         let same : length (cellWords (set (flat ss) i c)) ≡ length (cellWords (flat ss)) = omega (arith, words-length (set (flat ss) i c), words-length (flat ss), length-set (flat ss) i c) in
-        rw (lent-is w at (v .inside), place, flat-write ss b o c h, same) (ap (λ (d : List ℕ). paste d (3 * i) (cellWords (c ∷ [])) 3) (v .packed .cells) ∙ paste-cell (flat ss) _ i c (omega (arith, write-below)))
+        rw (lent-is w at (v .inside), place, flat-write ss b o c h, same) (ap (λ (d : List ℕ). paste d (3 * i) (cellWords (c ∷ [])) 3) (v .packed .cells) ∙ cell-pasted (flat ss) _ i c (omega (arith, write-below)))
 
     write-done : (c : Cell) → valid c ≡ true → {ys : List ℕ} → ys ≡ paste (lent at w) (3 * (f + o)) (cellWords (c ∷ [])) 3 → Changed s at w (returned at w ys) (set ss b (set (getD ss b []) o c))
     unfolding inUse
@@ -82,26 +71,12 @@ module _ {s at : ℕ} {w : List ℕ} {ss : List (List Cell)} (v : Elder s at w s
         let long : length (flat rs) ≡ length (flat ss) = rw (flat-write ss b o c h) (length-set (flat ss) (inUse (take b ss) + o) c) in
         let lens : take s w ≡ map length rs = v .packed .lens ∙ sym (map-set-same length ss b (set x o c) [] (length-set x o c)) in
         let all = all-valid (flat ss) (v .packed .valid) in
-        let slot : allValid (set x o c) ≡ true = valid-all _ (λ d m. ⊎-elim (λ k. all d (flat-in ss b d k)) (λ k. rw k u) (cell-set-from x o c m)) in
+        let slot : allValid (set x o c) ≡ true = valid-set x o c (valid-all x (λ d m. all d (flat-in ss b d m))) u in
         rw (returned-is w at (v .inside) ys) (changed w (v .order) (v .inside) refl rs lens (length (drop at w)) (omega (arith, v .packed .fits)) (set-valid ss b (set x o c) (v .packed .valid) slot) ys (q ∙ write-words c))
 
 module _ (cell : List ℕ) (k : length cell ≡ 3) (u : wholeCells cell ≡ true) where
-  abbrev one : Cell
-  one = cellOf (getD cell 0 0) (getD cell 1 0) (getD cell 2 0)
-
-  one-in : cellsIn cell ≡ one ∷ []
-  unfolding cellsOf
-  one-in = in-of 1 cell (omega arith)
-
-  one-words : cell ≡ cellWords (one ∷ [])
-  one-words = rw (← one-in) (sym (whole-back cell u))
-
-  one-valid : valid one ≡ true
-  unfolding allValid
-  one-valid = and-left (valid one) true (rw one-in at (whole-valid cell u))
-
   pub write-made : {s at : ℕ} {w : List ℕ} → Elder s at w (slotsAt s at w) → (b o : ℕ) → o < length (getD (slotsAt s at w) b []) → (f : ℕ) → f ≡ sum (take b (take s w))
       → {ys : List ℕ} → ys ≡ paste (lent at w) (3 * (f + o)) cell (length cell) → Changed s at w (returned at w ys) (written b o cell (slotsAt s at w))
-  write-made {at = at} {w} v b o h f e q = write-done v b o h f e one one-valid (q ∙ (λ i. paste (lent at w) (3 * (f + o)) (one-words i) (k i)))
+  write-made {at = at} {w} v b o h f e q = let (is, good) = one-cell cell k u in write-done v b o h f e _ good (q ∙ (λ i. paste (lent at w) (3 * (f + o)) (is i) (k i)))
 
 pub ruleset writes = (write-base, write-fits, write-fits-3, write-room, write-made)

@@ -1,15 +1,12 @@
--- An alloc's parts, done one by one, are the alloc.
-use mathlib.Core.Path.{_≡_, refl, sym, ap, _∙_}
-use mathlib.Core.Bool.{Bool, true, false}
-use mathlib.Core.List.{List, [], _∷_, _++_, map, append-assoc, append-nil}
+-- The change of moved pointers, in both generations and then in roots, is the change of all of them.
+use mathlib.Core.Path.{_≡_, refl, ap, _∙_}
+use mathlib.Core.List.{List, [], _∷_, map}
 use Prim.Native.Nat.{ℕ}
-use lib.Dec.{leb}
 use Rattle.model.specs.Res.{Res, ok, refuse, _>>=_, each}
 use Rattle.model.specs.Records.{Ptr, Cell}
-use Rattle.model.specs.Heap.{Nursery, Elder, Sizes, held, part}
-use Rattle.model.specs.Elder.{collectOld, place, Step, move, sweeping, Moving, collectIfFull, moveOne}
+use Rattle.model.specs.Heap.{Nursery, Elder}
 use Rattle.model.specs.Collector.{swapCell, swapYoung, swapOld, swapAll}
-use Rattle.theorems.specs.Apart.{moveAlone, swapBoth, swapRoots, withRoots, after}
+use Rattle.theorems.specs.Apart.{swapBoth, swapRoots, withRoots}
 
 -- pointers change in both generations first, then in roots: roots take no part in what may be refused
 
@@ -40,41 +37,3 @@ swaps-apart (m ∷ ms) y e r = ap (λ (x : Res (Nursery × Elder × List Cell)).
         → ((n >>= withRoots (map (swapCell m) r)) >>= each swapAll ms) ≡ ((n >>= each swapBoth ms) >>= withRoots (swapRoots ms (map (swapCell m) r)))
     go (ok g) ih = ih (g .0) (g .1)
     go (refuse q) ih = refl
-
--- a move does not look at the steps before it
-
-collect-alone : (z : Sizes) (roots : List Cell) (ms : List ℕ) (e : Elder) (l : List Step) → collectIfFull z roots ms (record { elder = e; steps = l }) ≡ (collectIfFull z roots ms (record { elder = e; steps = [] }) >>= after l)
-unfolding collectIfFull after
-collect-alone z roots ms e l = go (leb (z .t) (held (e .slots)))
-  where
-    behind : List Step → List Ptr × Elder → Res Moving
-    behind k r = ok (record { elder = r .1; steps = k ++ sweeping (r .0) e (r .1) ∷ [] })
-
-    swept : (n : Res (List Ptr × Elder)) → (n >>= behind l) ≡ ((n >>= behind []) >>= after l)
-    swept (ok r) = refl
-    swept (refuse q) = refl
-
-    choose : List Step → Bool → Res Moving
-    choose k t = elim t [ true ↦ (collectOld e roots ms >>= behind k) | false ↦ ok (record { elder = e; steps = k }) ]
-
-    go : (t : Bool) → choose l t ≡ (choose [] t >>= after l)
-    go true = swept (collectOld e roots ms)
-    go false = ap (λ (k : List Step). ok (record { elder = e; steps = k })) (sym (append-nil l))
-
-pub move-alone : (z : Sizes) (y : Nursery) (roots : List Cell) (ms : List ℕ) (p : Ptr) (e : Elder) (l : List Step) → moveOne z y roots ms p (record { elder = e; steps = l }) ≡ (moveAlone z y roots ms p e >>= after l)
-unfolding moveOne moveAlone after
-move-alone z y roots ms p e l = ap (λ (n : Res Moving). n >>= rest) (collect-alone z roots ms e l) ∙ go (collectIfFull z roots ms (record { elder = e; steps = [] }))
-  where
-    behind : Elder → List Step → ℕ × Elder → Res Moving
-    behind x k r = ok (record { elder = r .1; steps = k ++ move p (r .0) x (r .1) ∷ [] })
-
-    rest : Moving → Res Moving
-    rest v = place z (part y (p .base)) (v .elder) >>= behind (v .elder) (v .steps)
-
-    placed : (v : Moving) (n : Res (ℕ × Elder)) → (n >>= behind (v .elder) (l ++ v .steps)) ≡ ((n >>= behind (v .elder) (v .steps)) >>= after l)
-    placed v (ok r) = ap (λ (k : List Step). ok (record { elder = r .1; steps = k })) (append-assoc l (v .steps) (move p (r .0) (v .elder) (r .1) ∷ []))
-    placed v (refuse q) = refl
-
-    go : (n : Res Moving) → ((n >>= after l) >>= rest) ≡ ((n >>= rest) >>= after l)
-    go (ok v) = placed v (place z (part y (p .base)) (v .elder))
-    go (refuse q) = refl

@@ -3,9 +3,11 @@ use mathlib.Core.Path.{_≡_, refl, sym, ap, ap₂, _∙_}
 use mathlib.Core.Bool.{Bool, true, false, _&&_, false≢true}
 use mathlib.Core.List.{List, [], _∷_, _++_, append-nil}
 use Prim.Native.Nat.{ℕ, zero, suc, _+_, _-_, _*_, _%_, _/_, _≤_, _<_}
+use native.Mathlib.Nat.{not-suc-le-zero, le-of-suc-le-suc}
 use native.Mathlib.Omega.{arith}
 use lib.Dec.{eqb, lit<}
-use lib.ListN.{length, replicate, length-append, length-replicate}
+use lib.ListN.{length, getD, set, replicate, length-append, length-replicate}
+use lib.Seq.{paste}
 use Rattle.model.specs.Records.{Cell, plain, ref, blank, cellWords, cellIf, cellOf, cellsOf, validPlain, valid, allValid, spareZero, validWords, wholeCells}
 use Rattle.model.specs.Image.{packedCells}
 use Rattle.model.specs.Calls.{cellsIn}
@@ -100,6 +102,16 @@ unfolding allValid valid validPlain blank
 valid-blanks zero = refl
 valid-blanks (suc n) = valid-blanks n
 
+-- one cell's words put in the place of cell i
+pub cell-pasted : (cs : List Cell) (z : List ℕ) (i : ℕ) (c : Cell) → i < length cs → paste (cellWords cs ++ z) (3 * i) (cellWords (c ∷ [])) 3 ≡ cellWords (set cs i c) ++ z
+unfolding cellWords
+cell-pasted [] z i c h = absurd (not-suc-le-zero h)
+cell-pasted (x ∷ cs) z zero c h = rw (words-cons x cs, words-cons c [], words-cons c cs)
+cell-pasted (x ∷ cs) z (suc i) c h =
+    let e : 3 * suc i + 3 ≡ suc (suc (suc (3 * i + 3))) = omega arith in
+    let f : 3 * suc i ≡ suc (suc (suc (3 * i))) = omega arith in
+    rw (e, f, words-cons x cs, words-cons x (set cs i c), ← cell-pasted cs z i c (le-of-suc-le-suc h))
+
 -- words that are whole, valid cells
 
 pub whole-words : (cs : List Cell) → allValid cs ≡ true → wholeCells (cellWords cs) ≡ true
@@ -134,6 +146,16 @@ whole-valid (a ∷ b ∷ o ∷ w) e = let (v, r) = and-parts _ _ e in rw (in-con
 pub in-of : (n : ℕ) (w : List ℕ) → length w ≡ n * 3 → cellsIn w ≡ cellsOf n w
 unfolding cellsIn
 in-of n w h = let third : length w / 3 ≡ n = omega arith in rw third
+
+-- three of them are one
+pub one-cell : (w : List ℕ) → length w ≡ 3 → wholeCells w ≡ true
+    → (w ≡ cellWords (cellOf (getD w 0 0) (getD w 1 0) (getD w 2 0) ∷ [])) × (valid (cellOf (getD w 0 0) (getD w 1 0) (getD w 2 0)) ≡ true)
+unfolding wholeCells cellWords
+one-cell (a ∷ b ∷ o ∷ []) l e = let v = and-left _ _ e in (sym (cell-words a b o [] v), cell-valid a b o v)
+one-cell [] l e = absurd (omega arith)
+one-cell (a ∷ []) l e = absurd (omega arith)
+one-cell (a ∷ b ∷ []) l e = absurd (omega arith)
+one-cell (a ∷ b ∷ o ∷ x ∷ w) l e = absurd (omega arith)
 
 pub whole-length : (w : List ℕ) → wholeCells w ≡ true → length (cellsIn w) * 3 ≡ length w
 whole-length w e = sym (words-length (cellsIn w)) ∙ ap length (whole-back w e)

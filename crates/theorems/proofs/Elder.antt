@@ -6,20 +6,20 @@ use Prim.Native.Nat.{ℕ, zero, suc, _+_, _≤_, _<_, zero-le, suc-le-suc}
 use native.Mathlib.Nat.{le-refl, le-of-suc-le-suc, not-suc-le-zero}
 use native.Mathlib.Omega.{arith}
 use lib.Dec.{ltb, leb}
-use lib.ListN.{length, getD, set, length-set, length-append, length-map, replicate, length-replicate}
+use lib.ListN.{length, getD, set, length-set, length-append, length-map}
 use Rattle.model.specs.Lists.{onlyIf, flat}
 use Rattle.model.specs.Res.{ok, _>>=_, each}
 use Rattle.model.specs.Records.{Ptr, Cell, ref, blank, valid}
 use Rattle.model.specs.Barrier.{Barrier, most, countIn, countOut}
 use Rattle.model.specs.Heap.{Elder, Sizes, held, inUse}
-use Rattle.model.specs.Elder.{keeps, keep, countDropped, sweep, newBase, room, put, place, placeNew}
+use Rattle.model.specs.Elder.{keeps, keep, countDropped, sweep, newBase, room, put}
 use Rattle.model.specs.Collector.{movedTo, holds, swapCell, countSwap, swapOld, writeOld}
 use Rattle.theorems.specs.Holds.{Holds, such}
 use Rattle.theorems.specs.Fit.{FitElder}
 use mathlib.Core.Logic.{⊎-elim}
 use borrow.Author.Tests.{ltb-true, leb-true}
 use Rattle.theorems.proofs.Lists.{flat-in}
-use Rattle.theorems.proofs.Contents.{Valid, valid-all, keep-from, set-from, cell-set-from, flat-map, valid-blank, valid-swap}
+use Rattle.theorems.proofs.Contents.{Valid, valid-all, keep-from, set-from, cell-set-from, flat-map, valid-swap}
 use Rattle.theorems.proofs.Res.{bind, asked, asked-is, weaken}
 use Rattle.theorems.proofs.Barrier.{bit, crosses, tally, Covers, less, in-covers, out-covers, ins-cover, outs-cover}
 
@@ -145,14 +145,6 @@ module _ {M : Type 0} where
         );
         valid = λ c k. ⊎-elim (g .valid c) (v c) (set-from (e .slots) (held (e .slots)) cs k);
       }))
-
-  pub place-good : (z : Sizes) (cs : List Cell) (e : Elder) → Valid cs → Good M z e → Holds (λ (r : ℕ × Elder). Good M z (r .1)) (place z cs e)
-  unfolding place
-  place-good z cs e v g = bind _ (room-is z (length cs) e g) (λ _ m. put-good z cs e v g m)
-
-  pub placeNew-good : (z : Sizes) (a : ℕ) (e : Elder) → Good M z e → Holds (λ (r : ℕ × Elder). Good M z (r .1)) (placeNew z a e)
-  unfolding placeNew
-  placeNew-good z a e g = bind _ (room-is z a e g) (λ _ m. put-good z (replicate a blank) e (valid-blank a) g (rw length-replicate m))
 
   -- remapping
 

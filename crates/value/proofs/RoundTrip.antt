@@ -9,7 +9,7 @@ use lib.Ieee.{binary64, ofBits}
 use mir.Syntax.{w64}
 use mir.Val.{toZ}
 use mir.ValLaws.{toZ-ofZ}
-use Rattle.model.specs.Res.{ok, refuse, _>>=_, ask}
+use Rattle.model.specs.Res.{ok, _>>=_, ask}
 use Rattle.model.specs.Records.{Cell, plain, ref, blank, cellWords, cellOf, valid, validWords}
 use Rattle.theorems.proofs.Cells.{kindWord, payloadWord, offsetWord, words-cons, cell-back, valid-words, cell-words}
 use Rattle.value.specs.declared.Value.{Value}
@@ -42,14 +42,6 @@ module _ (a b o : ℕ) (v : Value) (d : Decodes a b o (Valid v)) where
 
   pub decoded-words : cellWords (valueCell v ∷ []) ≡ a ∷ b ∷ o ∷ []
   decoded-words = spelled-words a b o v decoded-asked decoded-spelled
-
-pub invalid-asked : (a b o : ℕ) → Decodes a b o Invalid → validWords a b o ≡ false
-unfolding decodedCell cellAsked
-invalid-asked a b o d = go (validWords a b o) (d .cell)
-  where
-    go : (t : Bool) → refuse 3 ≡ (ask 3 t >>= λ _. ok (cellOf a b o)) → t ≡ false
-    go true e = let z : _≡_ {A = ℕ} 0 1 = cc in absurd (omega arith)
-    go false e = refl
 
 -- a value for each cell
 cellValue : Cell → Value

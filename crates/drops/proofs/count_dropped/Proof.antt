@@ -3,7 +3,7 @@ use mathlib.Core.Logic.{⊎-elim}
 use mathlib.Core.Path.{refl, sym, _∙_}
 use Prim.Native.Nat.{_-_}
 use lib.ListN.{length}
-use Rattle.barrier.specs.Counts.{barrierOf}
+use Rattle.barrier.specs.Counts.{barrierOf, stepOf}
 use Rattle.barrier.proofs.Handing.{hands-done, hands-refused}
 use Rattle.trace.specs.Words.{members}
 use Rattle.slots.specs.Slots.{slotsOf}
@@ -50,23 +50,23 @@ part-is-counted-end c = search (laws, needs)
 is-counted-requires : tie.Need-is-counted-requires Inv-loop μ-loop
 is-counted-requires c κs = search (laws, needs)
 
-mul-count-cells-out : tie.Need-mul-count-cells-out Inv-loop μ-loop
-mul-count-cells-out c =
+mul-count-cells : tie.Need-mul-count-cells Inv-loop μ-loop
+mul-count-cells c =
     let t = c .before .before .before .before in
     let h = left-start (t .before .loop .inv) (t .loop-test .taken) in
     search needs
 
-sub-count-cells-out : tie.Need-sub-count-cells-out Inv-loop μ-loop
-sub-count-cells-out c = search needs
+sub-count-cells : tie.Need-sub-count-cells Inv-loop μ-loop
+sub-count-cells c = search needs
 
-part-count-cells-out-start : tie.Need-part-count-cells-out-start Inv-loop μ-loop
-part-count-cells-out-start c = search needs
+part-count-cells-start : tie.Need-part-count-cells-start Inv-loop μ-loop
+part-count-cells-start c = search needs
 
-part-count-cells-out-end : tie.Need-part-count-cells-out-end Inv-loop μ-loop
-part-count-cells-out-end c = search (laws, needs)
+part-count-cells-end : tie.Need-part-count-cells-end Inv-loop μ-loop
+part-count-cells-end c = search (laws, needs)
 
-count-cells-out-requires : tie.Need-count-cells-out-requires Inv-loop μ-loop
-count-cells-out-requires c κs = search (laws, needs)
+count-cells-requires : tie.Need-count-cells-requires Inv-loop μ-loop
+count-cells-requires c κs = search (laws, needs)
 
 enum-told : tie.Need-enum-told Inv-loop μ-loop
 enum-told c = search needs
@@ -75,8 +75,9 @@ enum-told-2 : tie.Need-enum-told-2 Inv-loop μ-loop
 enum-told-2 c = search needs
 
 returns : tie.Need-returns Inv-loop μ-loop
+unfolding stepOf
 returns c =
-    let s = c .before .before .count-cells-out in
+    let s = c .before .before .count-cells in
     let i = c .before .before .before .before in
     let t = i .before .before .before .before in
     let told = c .enum-told2 .given in
@@ -90,6 +91,7 @@ loop-less : tie.Need-loop-less Inv-loop μ-loop
 loop-less c = search needs
 
 loop-again : tie.Need-loop-again Inv-loop μ-loop
+unfolding stepOf
 loop-again c =
     let t = c .before .before .before .before in
     let told = c .before .is-counted .ensures in
@@ -117,11 +119,11 @@ count-dropped-spec =
     part-is-counted-start
     part-is-counted-end
     is-counted-requires
-    mul-count-cells-out
-    sub-count-cells-out
-    part-count-cells-out-start
-    part-count-cells-out-end
-    count-cells-out-requires
+    mul-count-cells
+    sub-count-cells
+    part-count-cells-start
+    part-count-cells-end
+    count-cells-requires
     enum-told
     enum-told-2
     returns

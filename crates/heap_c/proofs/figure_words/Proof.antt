@@ -1,6 +1,4 @@
 use borrow.Author.Needs.{needs}
-use mathlib.Core.Path.{_≡_, refl}
-use mathlib.Core.Bool.{Bool, true, false}
 use Rattle.heap_c.specs.Replies.{figureWords}
 use Rattle.heap_c.proofs.figure_words.Statement.{statement}
 use Rattle.heap_c.proofs.figure_words.Tie as tie

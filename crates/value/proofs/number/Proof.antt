@@ -1,7 +1,8 @@
 use borrow.Author.Needs.{needs}
 use borrow.Author.Tests.{lt-ltb, le-ltb}
-use mathlib.Core.Path.{_≡_, refl, sym, _∙_}
-use mathlib.Core.Bool.{true}
+use mathlib.Core.Path.{_≡_, refl, sym, subst, _∙_}
+use mathlib.Core.Bool.{Bool, true, not}
+use lib.Dec.{T}
 use lib.Ieee.{Float, nan, inf, fin, binary64, isNan, ofBits, div}
 use lib.Ieee.Bits.{nanBits-above, nanBits-is}
 use Rattle.value.proofs.number.Statement.{statement}
@@ -14,7 +15,7 @@ the-nan (inf s) h = cc
 the-nan (fin s m e) h = cc
 
 float-from-bits-result : tie.Need-float-from-bits-result
-float-from-bits-result c = rw (nanBits-above, le-ltb _ _ (c .if1 .left)) tt
+float-from-bits-result c = subst (λ (t : Bool). T (not t)) (sym (nanBits-above binary64 _ ∙ le-ltb _ _ (c .if1 .left))) tt
 
 returns : tie.Need-returns
 unfolding div ofBits

@@ -1,14 +1,7 @@
 use borrow.Author.Needs.{needs}
-use mathlib.Core.Path.{_≡_}
-use Rattle.model.specs.Barrier.{countIn}
-use Rattle.value.specs.Value.{valueCell}
-use Rattle.barrier.specs.Counts.{barrierOf, counted}
-use Rattle.access.proofs.Counted.{step-done, step-refused, counts-in, alone-refused, alone-stored}
+use Rattle.access.proofs.Counted.{counts-in, alone}
 use Rattle.access.proofs.counts.count_in_alone.Statement.{statement}
 use Rattle.access.proofs.counts.count_in_alone.Tie as tie
-
-step-is : (c : tie.After-count-in) → counted (c .count-in .result) ≡ countIn (c .before .before .before .before .args .own) (valueCell (c .before .before .before .before .args .new)) (barrierOf (c .before .barrier-of .result))
-step-is c = c .count-in .ensures .counted
 
 barrier-of-requires : tie.Need-barrier-of-requires
 barrier-of-requires c κs = search needs
@@ -16,32 +9,16 @@ barrier-of-requires c κs = search needs
 count-in-requires : tie.Need-count-in-requires
 count-in-requires c κs = search needs
 
-enum-known-a : tie.Need-enum-known-a
-enum-known-a c = search needs
+store-step-requires : tie.Need-store-step-requires
+store-step-requires c κs = search needs
 
 same-length : tie.Need-same-length
 same-length c = search needs
 
 returns : tie.Need-returns
 returns c =
-    let k = c .before .before .before in
-    let s = k .before .before .before .before in
-    alone-refused (s .pre) _ (k .before .barrier-of .ensures) (counts-in _) _ _ (step-refused _ (step-is k) _ (c .before .a .given .1))
-
-enum-told : tie.Need-enum-told
-enum-told c = search needs
-
-store-count-requires : tie.Need-store-count-requires
-store-count-requires c κs = search needs
-
-same-length-2 : tie.Need-same-length-2
-same-length-2 c = search needs
-
-returns-2 : tie.Need-returns-2
-returns-2 c =
-    let k = c .before .before .before .before .before .before .before in
-    let s = k .before .before .before .before in
-    alone-stored (s .pre) _ (k .before .barrier-of .ensures) (counts-in _) _ (step-done _ (step-is k) (c .before .before .before .before .before .enum-told .given .1)) (c .before .before .store-count .ensures)
+    let b = c .before .before .before .before .before in
+    alone (b .before .before .before .pre) _ (b .barrier-of .ensures) (counts-in _) _ (c .before .before .before .count-in .ensures .counted) (c .before .before .store-step .ensures)
 
 pub count-in-alone-spec : {M : Type 1} → statement M
 count-in-alone-spec =
@@ -49,10 +26,6 @@ count-in-alone-spec =
     (tie.spec
     barrier-of-requires
     count-in-requires
-    enum-known-a
+    store-step-requires
     same-length
-    returns
-    enum-told
-    store-count-requires
-    same-length-2
-    returns-2)
+    returns)

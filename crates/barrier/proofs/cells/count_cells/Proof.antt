@@ -4,19 +4,18 @@ use mathlib.Core.Path.{refl, sym, _∙_}
 use Prim.Native.Nat.{_-_}
 use native.Mathlib.Omega.{arith}
 use lib.ListN.{length}
-use Rattle.model.specs.Barrier.{countIn}
-use Rattle.barrier.specs.Counts.{barrierOf}
-use Rattle.barrier.proofs.Steps.{steps-in}
+use Rattle.barrier.specs.Counts.{barrierOf, stepOf}
+use Rattle.barrier.proofs.Steps.{steps-of}
 use Rattle.barrier.proofs.Handing.{hands-done, hands-refused}
 use Rattle.barrier.proofs.Turns.{Left, begin, ended, room, valid-here, turn-skip, turn-done, turn-refused}
-use Rattle.barrier.proofs.cells.count_cells_in.Statement.{statement}
-use Rattle.barrier.proofs.cells.count_cells_in.Tie as tie
+use Rattle.barrier.proofs.cells.count_cells.Statement.{statement}
+use Rattle.barrier.proofs.cells.count_cells.Tie as tie
 
 abbrev Inv-loop : tie.InvT-loop
-Inv-loop cells own barrier b₀ i₀ b i = Left (countIn own) cells (barrierOf barrier) i (barrierOf b)
+Inv-loop cells own into barrier b₀ i₀ b i = Left (stepOf into own) cells (barrierOf barrier) i (barrierOf b)
 
 abbrev μ-loop : tie.MeasureT-loop
-μ-loop cells own barrier b₀ i₀ b i = length cells - i
+μ-loop cells own into barrier b₀ i₀ b i = length cells - i
 
 loop-holds : tie.Need-loop-holds Inv-loop μ-loop
 loop-holds c = begin _ _ _ (c .before .pre)
@@ -36,8 +35,8 @@ value-at-requires c κs =
     let h = c .before .before .before .loop-test .taken in
     (room _ _ _ l h, valid-here _ _ _ l h)
 
-count-in-requires : tie.Need-count-in-requires Inv-loop μ-loop
-count-in-requires c κs = search needs
+count-requires : tie.Need-count-requires Inv-loop μ-loop
+count-requires c κs = search needs
 
 enum-told : tie.Need-enum-told Inv-loop μ-loop
 enum-told c = search needs
@@ -49,7 +48,7 @@ returns : tie.Need-returns Inv-loop μ-loop
 returns c =
     let t = c .before .before .before .before .before .before .before in
     let v = c .before .before .before .value-at in
-    let s = c .before .before .count-in in
+    let s = c .before .before .count in
     let no = turn-refused _ _ _ (t .before .loop .inv) (t .loop-test .taken) (v .result) (s .result) (v .ensures) (s .ensures .counted) (c .enum-told2 .given .0 .0) (c .enum-told2 .given .1) in
     hands-refused _ (c .enum-told2 .given .1) refl no
 
@@ -66,14 +65,14 @@ loop-again c =
     let t = c .before .before .before in
     ⊎-elim
     (λ w. rw (w .6) (turn-done _ _ _ (t .before .loop .inv) (t .loop-test .taken) (w .1 .result) (w .2 .result) (w .1 .ensures) (w .2 .ensures .counted) (w .4 .given .1)))
-    (λ w. rw (w .1) (turn-skip _ _ _ (t .before .loop .inv) (t .loop-test .taken) (steps-in _) (sym (c .before .crosses .ensures) ∙ w .0 .left)))
+    (λ w. rw (w .1) (turn-skip _ _ _ (t .before .loop .inv) (t .loop-test .taken) (steps-of _ _) (sym (c .before .crosses .ensures) ∙ w .0 .left)))
     (c .if1 .came)
 
 returns-2 : tie.Need-returns-2 Inv-loop μ-loop
 returns-2 c = hands-done _ refl (ended _ _ _ (c .before .loop .inv) (c .loop-test .left))
 
-pub count-cells-in-spec : {M : Type 1} → statement M
-count-cells-in-spec =
+pub count-cells-spec : {M : Type 1} → statement M
+count-cells-spec =
     tie.close
     (tie.spec
     Inv-loop
@@ -83,7 +82,7 @@ count-cells-in-spec =
     shared-slice-read-crosses
     crosses-requires
     value-at-requires
-    count-in-requires
+    count-requires
     enum-told
     enum-told-2
     returns
