@@ -42,7 +42,7 @@ pub fn any_crosses(cells: &[u64], own: u8) -> bool
     false
 }
 
-// Each counted in, or out.
+// Each counted in if `into`, else out.
 pub fn count_cells(cells: &[u64], own: u8, into: bool, barrier: WriteBarrier) -> Counted
     requires { ⌜ wholeCells (now cells) ≡ true ⌝ }
     ensures { λ r. ⌜ HandsBack (each (stepOf into own) (cellsIn (now (cells .entry))) (barrierOf barrier)) (barrierOf barrier) r ⌝ }

@@ -117,7 +117,7 @@ impl WriteBarrier {
         }
     }
 
-    // Either step.
+    // Counted in if `into`, else out.
     pub fn count(self, own: u8, into: bool, v: Value) -> Counted
         ensures { λ r. ⌜ HandsBack (stepOf into own (valueCell v) (barrierOf self)) (barrierOf self) r ⌝ }
     {

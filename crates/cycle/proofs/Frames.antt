@@ -46,10 +46,6 @@ module _ {k : ℕ} {s s′ : List ℕ} (f : Front k s s′) where
 -- the survivors' list and their new bases
 
 module _ (n : ℕ) (x y : List ℕ) (e : (j : ℕ) → j < 3 * n → getD x j 0 ≡ getD y j 0) where
-  pub entry-same : (i : ℕ) → i < n → ptrAt x i ≡ ptrAt y i
-  unfolding ptrAt
-  entry-same i l = rw (e (3 * i) (omega arith), e (3 * i + 1) (omega arith), e (3 * i + 2) (omega arith))
-
   pub moves-same : (a b : List ℕ) → ((j : ℕ) → j < n → getD a j 0 ≡ getD b j 0) → movesIn n x a ≡ movesIn n y b
   unfolding movesIn moveAt
   moves-same a b f = tab-ext (moveAt x a) (moveAt y b) 0 n (λ k l. rw (e (3 * k + 1) (omega arith), e (3 * k + 2) (omega arith), f k (omega arith)))
