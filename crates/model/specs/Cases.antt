@@ -1,29 +1,30 @@
--- Document 01's cases as rows of one table, with a row for each reading that a wrong definition would miss. A row is one call:
--- the image before it, its answer, and every word that it leaves in image and roots. The images are written out by `picture`,
--- which shares nothing with the definitions on trial.
+-- Document 01's cases as rows of one table, with a row for each reading that a wrong definition would miss: tests/mutants looks
+-- for one that no row refuses. A row is one call: the image before it, its answer, and every word that it leaves in image and
+-- roots; or a part that no call shows whole. The images are written out by `picture`, which shares nothing with the definitions
+-- on trial.
 use mathlib.Core.Path.{_≡_, refl}
 use mathlib.Core.Bool.{Bool, true, false, _&&_, cond}
-use mathlib.Core.List.{List, [], _∷_, _++_}
+use mathlib.Core.List.{List, [], _∷_, _++_, map}
 use Prim.Native.Nat.{ℕ, zero, suc, _+_, _-_, _*_, _%_, _/_}
 use Prim.Native.Char.{code}
 use Prim.Native.String.{String, [] as done, _∷_ as _then_}
-use lib.Dec.{eqb}
+use lib.Dec.{eqb, ltb}
 use lib.ListN.{length, take, set, replicate}
 use lib.Ieee.{ofBits}
 use Rattle.model.specs.Lists.{keepIf, flat, places, sum, allAtMost}
 use Rattle.model.specs.Res.{Res, ok, refuse, _>>=_, ask}
 use Rattle.model.specs.Reach.{mem, add, enter, walk, closure}
-use Rattle.model.specs.Records.{Ptr, blank, cellWords, cellOf, cellsOf, scalar, validPlain, valid, validWords, wholeCells, whole, samePtr, biased, sumFits, pointers, inHeap, pointersTo}
+use Rattle.model.specs.Records.{Ptr, blank, cellWords, cellOf, cellsOf, scalar, validPlain, valid, allValid, validWords, wholeCells, whole, samePtr, biased, sumFits, pointers, inHeap, pointersTo}
 use Rattle.model.specs.Barrier.{cache, most, counts, count, up, down, countIn, countOut, masks, matchesMask, matches}
-use Rattle.model.specs.Heap.{Sizes, inBounds, fresh, part, held, inUse}
+use Rattle.model.specs.Heap.{Elder, Sizes, inBounds, fresh, part, held, inUse}
 use Rattle.model.specs.Image.{imageLength, sizesOf, regions, flag, barrier, cut, encode, decode, sized, cursorIn, tiles, flagged, packedCells, formed}
 use Rattle.model.specs.Nursery.{bump, matched, youngStart, youngStep, youngMembers, before, insert, sort, survivors, allAllocated, emptied, collectYoung}
-use Rattle.model.specs.Elder.{oldStart, oldStep, oldMembers, keeps, keep, countDropped, sweep, collectOld, newBase, room, put, place, placeNew, collectIfFull, moveOne, movesOf, sweepsOf}
+use Rattle.model.specs.Elder.{oldStart, oldStep, oldMembers, keeps, keep, countDropped, sweep, collectOld, newBase, room, put, place, placeNew, Step, move, sweeping, collectIfFull, moveOne, movesOf, sweepsOf}
 use Rattle.model.specs.Collector.{movedTo, holds, swapCell, countSwap, swapYoung, swapOld, swapAll, fourCounts, allocAgain, collectAndAlloc, alloc, youngAt, oldAt, read, outYoung, writeYoung, writeOld, inYoung, inOld, write, statistics, report}
 use Rattle.model.specs.Calls.{cellsIn, rootsGood, valueGood, scratchLength, opened, allocOn, readOn, writeOn, Outcome, allocated, left, reported, Call, allocs, reads, writes, call, reportCall, newCall}
 use Rattle.model.specs.Figure.{Figure, rounded, figureOf, figure}
 use Rattle.model.specs.Command.{opcodes, operandBytes, littleEndian, field, commandOf, registersOf, parse, parseUpTo, parseAll}
-use Rattle.model.specs.Run.{started, holding, register, programBounds, theHeap, noHeap, pointerIn, added, floatIn, step, stepped}
+use Rattle.model.specs.Run.{Line, allocLine, noLine, started, holding, register, programBounds, theHeap, noHeap, pointerIn, added, floatIn, step, stepped}
 use Rattle.model.specs.Listing.{digits, decimal, signed, spaced, figureText, cellText, newWord, allocWord, setWord, loadWord, storeWord, reportWord, figureWord, noWord, lineText, line, linesFrom, longestFile, lines, listing}
 
 -- Images, written out
@@ -120,13 +121,19 @@ full = 4294967295
 
 -- Rows
 
--- what is tried: a call, the report or a fresh heap on an image; sizes alone; a Float's figure; a command file
+-- what is tried: a call, the report or a fresh heap on an image; what an alloc logs; sizes alone; cells alone; a Float's figure; what a
+-- command leaves of its bytes, and all commands; a line; a command file
 data Trial : Type 0 where
   calls : Call → Trial
+  logs : List ℕ → ℕ → Trial
   reports : Trial
   makes : Sizes → Trial
   bounds : Sizes → Trial
+  judges : List ℕ → Trial
   figures : ℕ → Trial
+  parses : List ℕ → Trial
+  parsesAll : List ℕ → Trial
+  writesLine : ℕ → Line → Trial
   runs : List ℕ → Trial
 
 -- the image before it and after it; its answer, or the question that refuses it; the roots afterwards
@@ -142,12 +149,31 @@ figureNumbers : Res Figure → Res (List ℕ)
 figureNumbers (ok f) = ok (cond (f .negative) 1 0 ∷ f .thousandths ∷ [])
 figureNumbers (refuse q) = refuse q
 
+pointerNumbers : List Ptr → List ℕ
+pointerNumbers [] = []
+pointerNumbers (p ∷ ps) = p .heap ∷ p .base ∷ p .off ∷ pointerNumbers ps
+
+-- collections, lengths, cells
+elderNumbers : Elder → List ℕ
+elderNumbers e = e .colls ∷ map length (e .slots) ++ cellWords (flat (e .slots))
+
+-- what a step names, then the elder before it and after it
+stepNumbers : List Step → List ℕ
+stepNumbers [] = []
+stepNumbers (move p b e e′ ∷ l) = pointerNumbers (p ∷ []) ++ b ∷ elderNumbers e ++ elderNumbers e′ ++ stepNumbers l
+stepNumbers (sweeping ps e e′ ∷ l) = pointerNumbers ps ++ elderNumbers e ++ elderNumbers e′ ++ stepNumbers l
+
 outcome : Trial → List ℕ → Outcome
 outcome (calls c) w = call c w
+outcome (logs roots amount) w = record { answer = opened w >>= λ h. allocOn h roots 1_000_000 amount >>= λ r. ok (pointerNumbers (r .members) ++ stepNumbers (r .steps)); image = w; roots = [] }
 outcome reports w = reportCall w
 outcome (makes z) w = newCall z w
 outcome (bounds z) w = record { answer = ask 1 (inBounds z) >>= λ _. ok []; image = w; roots = [] }
+outcome (judges cells) w = record { answer = ask 3 (allValid (cellsIn cells)) >>= λ _. ok []; image = w; roots = [] }
 outcome (figures bits) w = record { answer = figureNumbers (figure bits); image = w; roots = [] }
+outcome (parses file) w = record { answer = parse file >>= λ r. ok (r .1); image = w; roots = [] }
+outcome (parsesAll file) w = record { answer = ok (parseAll file .1); image = w; roots = [] }
+outcome (writesLine n l) w = record { answer = ok (line n l); image = w; roots = [] }
 outcome (runs file) w = record { answer = ok (listing file); image = w; roots = [] }
 
 same : List ℕ → List ℕ → Bool
@@ -192,10 +218,15 @@ rootsOf : Trial → List ℕ
 rootsOf (calls (allocs roots scratch amount)) = roots
 rootsOf (calls (reads p)) = []
 rootsOf (calls (writes p value)) = []
+rootsOf (logs roots amount) = []
 rootsOf reports = []
 rootsOf (makes z) = []
 rootsOf (bounds z) = []
+rootsOf (judges cells) = []
 rootsOf (figures bits) = []
+rootsOf (parses file) = []
+rootsOf (parsesAll file) = []
+rootsOf (writesLine n l) = []
 rootsOf (runs file) = []
 
 -- a refusal leaves image and roots
@@ -258,6 +289,10 @@ listingOf (l ∷ ls) = bytes (l .1) ++ 0x0A ∷ listingOf ls
 -- a command file, each command with the line that it prints
 prints : List (List ℕ × String) → Row
 prints ls = record { before = []; trial = runs (fileOf ls); answer = ok (listingOf ls); after = []; roots = [] }
+
+-- a line, and its text
+written : ℕ → Line → String → Row
+written n l text = record { before = []; trial = writesLine n l; answer = ok (listingOf (([], text) ∷ [])); after = []; roots = [] }
 
 -- The table
 
@@ -442,10 +477,10 @@ nurseryRows =
     -- then signed offset
     ∷ record {
       before = picture usual oneCell unused;
-      trial = wants (ptr 0 0 1 ++ ptr 0 0 minus1) 3;
-      answer = at 0 0 0 1 2 0 0;
-      after = picture usual (thenThree 2) (elder 0 absent (1 ∷ 1 ∷ []) (int 7 ++ int 7));
-      roots = ptr 1 1 0 ++ ptr 1 0 0;
+      trial = wants (ptr 0 0 2 ++ ptr 0 0 (minus1 - 2) ++ ptr 0 0 0x1_0000_0000 ++ ptr 0 0 1) 3;
+      answer = at 0 0 0 1 4 0 0;
+      after = picture usual (thenThree 4) (elder 0 absent (replicate 4 1) (int 7 ++ int 7 ++ int 7 ++ int 7));
+      roots = ptr 1 2 0 ++ ptr 1 0 0 ++ ptr 1 3 0 ++ ptr 1 1 0;
     }
     -- a member leads to the own-heap pointers in the whole allocation at its base, whatever its offset. The moved cell (0, 2, 0)
     -- is counted in with the elder, and out when it becomes (1, 1, 0); the stale one at 0 becomes that too, and is counted in
@@ -456,6 +491,15 @@ nurseryRows =
       after = picture usual (nursery 1 1 2 (present ((1, 1) ∷ [])) (1 ∷ []) (ptr 1 1 0 ++ ptr 1 6 0 ++ int 9)) (elder 0 (present []) (2 ∷ 1 ∷ []) (ptr 1 1 0 ++ ptr 1 6 0 ++ int 9));
       roots = ptr 1 0 0;
     }
+    -- that is each of its cells: behind its first, nursery 0 holds (0, 3, 0) twice. Both are counted in with the elder, and out
+    -- when they become (1, 1, 0); both stale ones become that too, and are counted in
+    ∷ record {
+      before = picture (sizes 5 8 8 16) (nursery 4 0 0 absent (3 ∷ 0 ∷ 0 ∷ 1 ∷ []) (int 7 ++ ptr 0 3 0 ++ ptr 0 3 0 ++ int 9)) unused;
+      trial = wants (ptr 0 0 0) 3;
+      answer = at 0 0 0 1 2 0 0;
+      after = picture (sizes 5 8 8 16) (nursery 3 1 2 (present ((1, 2) ∷ [])) (3 ∷ []) (int 7 ++ ptr 1 1 0 ++ ptr 1 1 0 ++ int 9)) (elder 0 (present []) (3 ∷ 1 ∷ []) (int 7 ++ ptr 1 1 0 ++ ptr 1 1 0 ++ int 9));
+      roots = ptr 1 0 0;
+    }
     -- a foreign member leads on as well: root (1, 0, 0) to the (0, 1, 0) in nursery 0
     ∷ record {
       before = picture usual (nursery 2 0 0 absent (1 ∷ 1 ∷ []) (ptr 0 1 0 ++ int 8)) unused;
@@ -463,6 +507,14 @@ nurseryRows =
       answer = at 0 0 0 1 2 0 0;
       after = picture usual (nursery 2 1 2 (present ((0, 1) ∷ [])) (2 ∷ []) (ptr 1 0 0 ++ int 8)) (elder 0 absent (1 ∷ []) (int 8));
       roots = ptr 1 0 0;
+    }
+    -- but only by a nursery allocation at its base: the stale (0, 3, 0) at 2 is no member
+    ∷ record {
+      before = picture usual (nursery 1 0 0 absent (1 ∷ []) (int 7 ++ int 8 ++ ptr 0 3 0)) unused;
+      trial = wants (ptr 1 2 0) 3;
+      answer = at 0 0 0 1 1 0 0;
+      after = picture usual (nursery 3 1 1 absent (3 ∷ []) (int 7 ++ int 8 ++ ptr 0 3 0)) unused;
+      roots = ptr 1 2 0;
     }
     -- each pointer is entered once: two roots and a start by mask 0 are one member. The count has no cell, and stays
     ∷ record {
@@ -472,12 +524,12 @@ nurseryRows =
       after = picture usual (thenThree 1) (elder 0 (present ((0, 1) ∷ [])) (1 ∷ []) (int 7));
       roots = ptr 1 0 0 ++ ptr 1 0 0;
     }
-    -- mask 0 matches each allocated base
+    -- mask 0 matches each allocated base, whatever its count
     ∷ record {
-      before = picture usual (nursery 3 0 0 absent (1 ∷ 2 ∷ []) (int 7 ++ int 8 ++ int 9)) (elder 0 (present ((0, 1) ∷ [])) [] []);
+      before = picture usual (nursery 3 0 0 absent (1 ∷ 2 ∷ []) (int 7 ++ int 8 ++ int 9)) (elder 0 (present ((0, 2) ∷ [])) [] []);
       trial = wants [] 1;
       answer = at 0 0 0 1 2 0 0;
-      after = picture usual (nursery 1 1 2 absent (1 ∷ []) (int 7 ++ int 8 ++ int 9)) (elder 0 (present ((0, 1) ∷ [])) (1 ∷ 2 ∷ []) (int 7 ++ int 8 ++ int 9));
+      after = picture usual (nursery 1 1 2 absent (1 ∷ []) (int 7 ++ int 8 ++ int 9)) (elder 0 (present ((0, 2) ∷ [])) (1 ∷ 2 ∷ []) (int 7 ++ int 8 ++ int 9));
       roots = [];
     }
     -- and no mask matches one that is not: 1 is inside nursery 0
@@ -488,10 +540,20 @@ nurseryRows =
       after = picture usual (nursery 2 1 0 absent (2 ∷ []) (int 7 ++ int 8)) (elder 0 (present ((1, 1) ∷ [])) [] []);
       roots = [];
     }
+    -- every one bit of a mask is a one in the base, and a heap's masks are the other's counts alone: of 0 to 5, mask 3 moves
+    -- nursery 3, and mask 5 keeps elder 5
+    ∷ record {
+      before = picture (sizes 7 6 8 16) (nursery 6 0 0 (present ((5, 1) ∷ [])) (replicate 6 1) (ptr 1 5 0 ++ int 11 ++ int 12 ++ int 13 ++ int 14 ++ int 15)) (elder 0 (present ((3, 1) ∷ [])) (replicate 6 1) (ptr 0 3 0 ++ int 21 ++ int 22 ++ int 23 ++ int 24 ++ int 25));
+      trial = wants [] 1;
+      answer = at 0 0 0 1 1 1 1;
+      after = picture (sizes 7 6 8 16) (nursery 1 1 1 absent (1 ∷ []) (ptr 1 5 0 ++ int 11 ++ int 12 ++ int 13 ++ int 14 ++ int 15)) (elder 1 (present []) (0 ∷ 1 ∷ 0 ∷ 0 ∷ 0 ∷ 1 ∷ []) (int 13 ++ int 25));
+      roots = [];
+    }
     -- 6 asks of own-heap members: one that a member leads to,
     ∷ refuses 6 (picture usual (nursery 1 0 0 absent (1 ∷ []) (ptr 0 2 0)) unused) (wants (ptr 0 0 0) 3)
     -- one that points behind the nursery,
     ∷ refuses 6 (picture usual oneCell unused) (wants (ptr 0 4 0) 3)
+    ∷ refuses 6 (picture usual oneCell unused) (wants (ptr 0 0x1_0000_0000 0) 3)
     -- one that points into an allocation,
     ∷ refuses 6 (picture usual (nursery 2 0 0 absent (2 ∷ []) (int 7 ++ int 8)) unused) (wants (ptr 0 1 0) 2)
     -- and of nothing else: neither what dropped and stale cells hold, nor a foreign member
@@ -518,6 +580,14 @@ nurseryRows =
       after = picture usual (nursery 0 1 1 absent [] (ptr 0 0 0)) (elder 0 (present []) (1 ∷ 4 ∷ []) (ptr 1 0 0));
       roots = ptr 1 0 0;
     }
+    -- and only once all are moved: what is moved second still holds (0, 0, 0), which is counted in with the elder, and then out
+    ∷ record {
+      before = picture usual (nursery 2 0 0 absent (1 ∷ 1 ∷ []) (int 7 ++ ptr 0 0 0)) unused;
+      trial = wants (ptr 0 0 0 ++ ptr 0 1 0) 2;
+      answer = at 0 0 0 1 2 0 0;
+      after = picture usual (nursery 2 1 2 (present ((0, 1) ∷ [])) (2 ∷ []) (int 7 ++ ptr 1 0 0)) (elder 0 (present []) (1 ∷ 1 ∷ []) (int 7 ++ ptr 1 0 0));
+      roots = ptr 1 0 0 ++ ptr 1 1 0;
+    }
     -- the walk goes on to its end, past R + N members: masks 1 and 2 start at six bases, whose cells lead to six pointers more,
     -- the last of these to another
     ∷ record {
@@ -533,6 +603,14 @@ nurseryRows =
       roots = [];
     }
     ∷ []
+
+-- nine that lead nowhere in an elder of one slot
+nineRoots : List ℕ
+nineRoots = ptr 1 1 0 ++ ptr 1 2 0 ++ ptr 1 3 0 ++ ptr 1 4 0 ++ ptr 1 5 0 ++ ptr 1 6 0 ++ ptr 1 7 0 ++ ptr 1 8 0 ++ ptr 1 9 0
+
+-- eleven that lead back to elder 0, and one to elder 1
+twelveCells : List ℕ
+twelveCells = ptr 1 0 1 ++ ptr 1 0 2 ++ ptr 1 0 3 ++ ptr 1 0 4 ++ ptr 1 0 5 ++ ptr 1 0 6 ++ ptr 1 0 7 ++ ptr 1 0 8 ++ ptr 1 0 9 ++ ptr 1 0 10 ++ ptr 1 0 11 ++ ptr 1 1 0
 
 -- Elder generation
 elderRows : List Row
@@ -569,6 +647,22 @@ elderRows =
       after = picture (sizes 4 1 8 16) (nursery 2 1 2 absent (2 ∷ []) (int 7 ++ int 8)) (elder 1 absent (1 ∷ 1 ∷ []) (int 7 ++ int 8));
       roots = ptr 1 0 0 ++ ptr 1 1 0;
     }
+    -- at each collection: mask 0 keeps what two moves brought
+    ∷ record {
+      before = picture (sizes 4 1 8 16) (nursery 3 0 0 (present ((0, 1) ∷ [])) (1 ∷ 1 ∷ 1 ∷ []) (int 7 ++ int 8 ++ int 9)) unused;
+      trial = wants (ptr 0 0 0 ++ ptr 0 1 0 ++ ptr 0 2 0) 3;
+      answer = at 0 0 0 1 3 2 9;
+      after = picture (sizes 4 1 8 16) (nursery 3 1 3 absent (3 ∷ []) (int 7 ++ int 8 ++ int 9)) (elder 2 absent (1 ∷ 1 ∷ 1 ∷ []) (int 7 ++ int 8 ++ int 9));
+      roots = ptr 1 0 0 ++ ptr 1 1 0 ++ ptr 1 2 0;
+    }
+    -- with cells not changed yet: mask 1 keeps elder 1, whose (0, 0, 0) keeps nothing; elder 0 is dropped, and 1 replaced
+    ∷ record {
+      before = picture (sizes 4 2 8 16) (nursery 3 0 0 (present ((1, 1) ∷ [])) (1 ∷ 1 ∷ 1 ∷ []) (int 7 ++ ptr 0 0 0 ++ int 9)) unused;
+      trial = wants (ptr 0 0 0 ++ ptr 0 1 0 ++ ptr 0 2 0) 3;
+      answer = at 0 0 0 1 3 1 4;
+      after = picture (sizes 4 2 8 16) (nursery 3 1 3 (present ((0, 1) ∷ [])) (3 ∷ []) (int 7 ++ ptr 1 0 0 ++ int 9)) (elder 1 (present ((0, 1) ∷ [])) (0 ∷ 1 ∷ []) (int 9));
+      roots = ptr 1 0 0 ++ ptr 1 1 0 ++ ptr 1 1 0;
+    }
     -- the call's unmoved roots: they keep no copy, and each of two collections drops the one before it
     ∷ record {
       before = picture (sizes 4 1 8 16) (nursery 3 0 0 absent (1 ∷ 1 ∷ 1 ∷ []) (int 7 ++ int 8 ++ int 9)) unused;
@@ -576,6 +670,39 @@ elderRows =
       answer = at 0 0 0 1 3 2 6;
       after = picture (sizes 4 1 8 16) (nursery 3 1 3 absent (3 ∷ []) (int 7 ++ int 8 ++ int 9)) (elder 2 absent (1 ∷ []) (int 9));
       roots = ptr 1 0 0 ++ ptr 1 0 0 ++ ptr 1 0 0;
+    }
+    -- T or more, and each cell: T 1 and three held; the second cell of elder 0 keeps 1, that of elder 2, which is dropped, is
+    -- counted out
+    ∷ record {
+      before = picture (sizes 4 1 8 16) oneCell (elder 0 (present ((1, 1) ∷ [])) (2 ∷ 1 ∷ 2 ∷ []) (int 10 ++ ptr 1 1 0 ++ int 11 ++ int 12 ++ ptr 0 1 5));
+      trial = wants (ptr 1 0 0 ++ ptr 0 0 0) 3;
+      answer = at 0 0 0 1 2 1 3;
+      after = picture (sizes 4 1 8 16) (thenThree 2) (elder 1 (present []) (2 ∷ 1 ∷ 1 ∷ []) (int 10 ++ ptr 1 1 0 ++ int 11 ++ int 7));
+      roots = ptr 1 0 0 ++ ptr 1 2 0;
+    }
+    -- a root without an allocation is a member like any other
+    ∷ record {
+      before = picture (sizes 4 1 8 16) oneCell (elder 0 absent (1 ∷ []) (int 10));
+      trial = wants (ptr 1 5 0 ++ ptr 0 0 0) 3;
+      answer = at 0 0 0 1 2 1 2;
+      after = picture (sizes 4 1 8 16) (thenThree 2) (elder 1 absent (1 ∷ []) (int 7));
+      roots = ptr 1 5 0 ++ ptr 1 0 0;
+    }
+    -- T counts allocations, and neither cells
+    ∷ record {
+      before = picture (sizes 4 3 8 16) oneCell (elder 0 absent (3 ∷ []) (int 10 ++ int 11 ++ int 12));
+      trial = wants (ptr 0 0 0) 3;
+      answer = at 0 0 0 1 1 0 0;
+      after = picture (sizes 4 3 8 16) (thenThree 1) (elder 0 absent (3 ∷ 1 ∷ []) (int 10 ++ int 11 ++ int 12 ++ int 7));
+      roots = ptr 1 1 0;
+    }
+    -- nor bases
+    ∷ record {
+      before = picture (sizes 4 3 8 16) oneCell (elder 0 absent (0 ∷ 0 ∷ 1 ∷ []) (int 10));
+      trial = wants (ptr 0 0 0) 3;
+      answer = at 0 0 0 1 1 0 0;
+      after = picture (sizes 4 3 8 16) (thenThree 1) (elder 0 absent (0 ∷ 1 ∷ 1 ∷ []) (int 7 ++ int 10));
+      roots = ptr 1 1 0;
     }
     -- T 0: each move collects, even if nothing is held
     ∷ record {
@@ -600,6 +727,22 @@ elderRows =
       answer = at 1 1 0 1 0 0 0;
       after = picture usual (nursery 0 1 0 absent [] []) (elder 0 (present ((3, 1) ∷ [])) (0 ∷ 4 ∷ []) []);
       roots = [];
+    }
+    -- a longer one by a shorter: nothing of it stays
+    ∷ record {
+      before = picture usual oneCell (elder 0 absent (0 ∷ 3 ∷ []) (int 10 ++ int 11 ++ int 12));
+      trial = wants (ptr 0 0 0) 3;
+      answer = at 0 0 0 1 1 0 0;
+      after = picture usual (thenThree 1) (elder 0 absent (0 ∷ 1 ∷ []) (int 7));
+      roots = ptr 1 1 0;
+    }
+    -- what the call itself has moved, too: the number of allocations is still one
+    ∷ record {
+      before = picture usual (nursery 2 0 0 absent (1 ∷ 1 ∷ []) (int 7 ++ int 8)) (elder 0 absent (0 ∷ 1 ∷ []) (int 10));
+      trial = wants (ptr 0 0 0 ++ ptr 0 1 0) 2;
+      answer = at 0 0 0 1 2 0 0;
+      after = picture usual (nursery 2 1 2 absent (2 ∷ []) (int 7 ++ int 8)) (elder 0 absent (0 ∷ 1 ∷ []) (int 8));
+      roots = ptr 1 1 0 ++ ptr 1 1 0;
     }
     -- so with a move: of two (0, 1, 5) the one in elder 1, which is dropped, is counted out, and not the one in elder 2, which is
     -- kept and then replaced
@@ -657,7 +800,43 @@ elderRows =
           (elder 1 absent (1 ∷ 1 ∷ 1 ∷ 1 ∷ 0 ∷ 1 ∷ 1 ∷ 1 ∷ []) (ptr 1 0 9 ++ ptr 1 1 1 ++ ptr 1 2 1 ++ ptr 1 3 1 ++ ptr 1 5 1 ++ ptr 1 6 1));
       roots = ptr 1 7 0;
     }
+    -- past cells of any number: the eleven (1, 0, 1) to (1, 0, 11) in elder 0, before the (1, 1, 0) there
+    ∷ record {
+      before = picture (sizes 4 1 4 16) oneCell (elder 0 absent (12 ∷ 1 ∷ []) (twelveCells ++ ptr 1 1 1));
+      trial = wants (ptr 1 0 0 ++ ptr 0 0 0) 3;
+      answer = at 0 0 0 1 2 1 15;
+      after = picture (sizes 4 1 4 16) (thenThree 2) (elder 1 absent (12 ∷ 1 ∷ 1 ∷ []) (twelveCells ++ ptr 1 1 1 ++ int 7));
+      roots = ptr 1 0 0 ++ ptr 1 2 0;
+    }
+    -- and past roots of any number: nine that lead nowhere, then (0, 0, 0). It leads to the (0, 0, 1) in nursery 0 and, when the
+    -- elder first collects, to the (1, 0, 1) in elder 0. Two copies, the first dropped before the second
+    ∷ record {
+      before = picture (sizes 2 1 1 1) (nursery 1 0 0 absent (1 ∷ []) (ptr 0 0 1)) (elder 0 absent (1 ∷ []) (ptr 1 0 1));
+      trial = wants (nineRoots ++ ptr 0 0 0) 1;
+      answer = at 0 0 0 1 11 2 21;
+      after = picture (sizes 2 1 1 1) (nursery 1 1 11 (present ((0, 1) ∷ [])) (1 ∷ []) (ptr 1 0 0)) (elder 2 (present []) (1 ∷ []) (ptr 1 0 0));
+      roots = nineRoots ++ ptr 1 0 0;
+    }
     ∷ []
+
+-- What an alloc logs: the members in order of entry, the roots' before those of masks; then the steps. T 1: the elder collects
+-- before either move, and its mask 1 keeps what the first one brought
+logRows : List Row
+logRows =
+    (let w = picture (sizes 4 1 3 4) (nursery 2 0 0 (present ((1, 1) ∷ [])) (1 ∷ 1 ∷ []) (int 7 ++ int 8)) (elder 0 (present ((1, 1) ∷ [])) (1 ∷ []) (int 10)) in
+    record {
+      before = w;
+      trial = logs (ptr 1 0 0 ++ ptr 0 0 0) 2;
+      answer = ok (
+          (1 ∷ 0 ∷ 0 ∷ 0 ∷ 0 ∷ 0 ∷ 0 ∷ 1 ∷ 0 ∷ [])
+          ++ (1 ∷ 0 ∷ 0 ∷ 0 ∷ 0 ∷ 0 ∷ []) ++ (0 ∷ 1 ∷ 0 ∷ 0 ∷ int 10) ++ (1 ∷ 1 ∷ 0 ∷ 0 ∷ int 10)
+          ++ (0 ∷ 0 ∷ 0 ∷ 1 ∷ []) ++ (1 ∷ 1 ∷ 0 ∷ 0 ∷ int 10) ++ (1 ∷ 1 ∷ 1 ∷ 0 ∷ int 10 ++ int 7)
+          ++ (1 ∷ 0 ∷ 0 ∷ 0 ∷ 0 ∷ 0 ∷ 1 ∷ 1 ∷ 0 ∷ []) ++ (1 ∷ 1 ∷ 1 ∷ 0 ∷ int 10 ++ int 7) ++ (2 ∷ 1 ∷ 1 ∷ 0 ∷ int 10 ++ int 7)
+          ++ (0 ∷ 1 ∷ 0 ∷ 2 ∷ []) ++ (2 ∷ 1 ∷ 1 ∷ 0 ∷ int 10 ++ int 7) ++ (2 ∷ 1 ∷ 1 ∷ 1 ∷ int 10 ++ int 7 ++ int 8)
+          );
+      after = w;
+      roots = [];
+    }) ∷ []
 
 -- 7. Is the new elder base below S, and are its cells together with those still held at most C?
 roomRows : List Row
@@ -692,9 +871,20 @@ roomRows =
     ∷ refuses 7 (picture (sizes 4 3 4 3) (nursery 3 0 0 absent (3 ∷ []) (int 7 ++ int 8 ++ int 9)) (elder 0 absent (1 ∷ 1 ∷ 1 ∷ []) (int 10 ++ int 11 ++ int 12))) (wants (ptr 1 0 0 ++ ptr 1 2 0 ++ ptr 0 0 0) 2)
     -- a second move that has no slot: the first leaves no trace
     ∷ refuses 7 (picture (sizes 4 8 1 16) (nursery 2 0 0 absent (1 ∷ 1 ∷ []) (int 7 ++ int 8)) unused) (wants (ptr 0 0 0 ++ ptr 0 1 0) 2)
+    -- asked of the amount once all are moved: the elder collection before the move makes room
+    ∷ record {
+      before = picture (sizes 4 1 8 5) oneCell (elder 0 absent (4 ∷ []) []);
+      trial = wants (ptr 0 0 0) 4;
+      answer = at 1 1 0 1 1 1 1;
+      after = picture (sizes 4 1 8 5) (nursery 0 1 1 absent [] (int 7)) (elder 1 absent (1 ∷ 4 ∷ []) (int 7));
+      roots = ptr 1 0 0;
+    }
+    ∷ refuses 6 (clean usual) (wants (ptr 0 1 0) 17)
     -- after 6, and before the cells are counted in
     ∷ refuses 6 (picture (sizes 4 8 0 0) (nursery 1 0 0 absent (1 ∷ []) (ptr 0 2 0)) unused) (wants (ptr 0 0 0) 3)
     ∷ refuses 7 (picture (sizes 4 8 0 0) (nursery 1 0 0 absent (1 ∷ []) (ptr 0 0 0)) (elder 0 (present ((0, full) ∷ [])) [] [])) (wants (ptr 0 0 0) 3)
+    -- a new allocation's 7 comes before the pointers change, where the elder's (0, 0, 0) would lack its count
+    ∷ refuses 7 (picture usual oneCell (elder 0 (present ((1, 1) ∷ [])) (1 ∷ []) (ptr 0 0 0))) (wants (ptr 0 0 0) 15)
     ∷ []
 
 -- Access
@@ -742,18 +932,29 @@ accessRows =
     ∷ shows accessed (to 1 1 0) (int 20)
     ∷ shows accessed (to 1 1 1) (ptr 0 389 0)
     ∷ refuses 8 accessed (looks (to 1 1 2))
+    ∷ refuses 8 accessed (looks (to 1 1 0x1_0000_0000))
+    ∷ refuses 8 accessed (looks (to 1 0x1_0000_0001 0))
     ∷ refuses 8 accessed (looks (to 1 1 minus1))
     ∷ refuses 8 accessed (looks (to 1 0 0))
     ∷ refuses 8 accessed (looks (to 1 8 0))
     ∷ refuses 8 accessed (looks (to 1 greatest 1))
     ∷ refuses 8 accessed (puts (to 1 1 2) (int 7))
     ∷ refuses 8 accessed (puts (to 1 0 0) (int 7))
+    ∷ refuses 8 accessed (puts (to 1 greatest 1) (int 7))
     -- any other heap: 8
     ∷ refuses 8 accessed (looks (to 2 1 0))
     ∷ refuses 8 accessed (looks (to 2 greatest 1))
     ∷ refuses 8 accessed (puts (to 2 1 0) (int 7))
     -- a write to the nursery counts the old cell out below the cursor,
     ∷ intoNursery (to 0 0 0) (int 7) (present []) (int 7 ++ int 8 ++ ptr 1 389 0 ++ int 10)
+    -- wherever it stands in its allocation,
+    ∷ record {
+      before = picture usual (nursery 2 0 0 (present ((5, 1) ∷ [])) (2 ∷ []) (int 7 ++ ptr 1 5 0)) unused;
+      trial = puts (to 0 0 1) (int 8);
+      answer = ok [];
+      after = picture usual (nursery 2 0 0 (present []) (2 ∷ []) (int 7 ++ int 8)) unused;
+      roots = [];
+    }
     -- and not at the cursor
     ∷ intoNursery (to 0 0 2) (int 7) (present ((133, 1) ∷ [])) (ptr 1 389 0 ++ int 8 ++ int 7 ++ int 10)
     -- it counts the new value in, on either side of the cursor,
@@ -762,6 +963,15 @@ accessRows =
     -- at base mod 256,
     ∷ intoNursery (to 0 0 1) (ptr 1 133 0) (present ((133, 2) ∷ [])) (ptr 1 389 0 ++ ptr 1 133 0 ++ ptr 1 389 0 ++ int 10)
     ∷ intoNursery (to 0 0 1) (ptr 1 261 0) (present ((5, 1) ∷ (133, 1) ∷ [])) (ptr 1 389 0 ++ ptr 1 261 0 ++ ptr 1 389 0 ++ int 10)
+    ∷ intoNursery (to 0 0 1) (ptr 1 minus1 0) (present ((133, 1) ∷ (255, 1) ∷ [])) (ptr 1 389 0 ++ ptr 1 minus1 0 ++ ptr 1 389 0 ++ int 10)
+    -- also where the old cell, not counted, is the same pointer,
+    ∷ record {
+      before = picture usual (nursery 2 1 0 absent (2 ∷ []) (ptr 1 5 0)) unused;
+      trial = puts (to 0 0 0) (ptr 1 5 0);
+      answer = ok [];
+      after = picture usual (nursery 2 1 0 (present ((5, 1) ∷ [])) (2 ∷ []) (ptr 1 5 0)) unused;
+      roots = [];
+    }
     -- and only a pointer to the other heap
     ∷ intoNursery (to 0 0 1) (ptr 0 6 0) (present ((133, 1) ∷ [])) (ptr 1 389 0 ++ ptr 0 6 0 ++ ptr 1 389 0 ++ int 10)
     -- a write to the elder always counts the old cell out, then the new value in
@@ -769,6 +979,14 @@ accessRows =
     ∷ intoElder (to 1 1 1) (ptr 0 4 0) (present ((4, 1) ∷ [])) (int 20 ++ ptr 0 4 0)
     ∷ intoElder (to 1 1 0) (ptr 0 133 0) (present ((133, 2) ∷ [])) (ptr 0 133 0 ++ ptr 0 389 0)
     ∷ intoElder (to 1 1 0) (ptr 1 6 0) (present ((133, 1) ∷ [])) (ptr 1 6 0 ++ ptr 0 389 0)
+    -- and either only if it points to the other heap
+    ∷ record {
+      before = picture usual (nursery 0 0 0 absent [] []) (elder 0 (present ((4, 1) ∷ [])) (1 ∷ []) (ptr 1 4 0));
+      trial = puts (to 1 0 0) (ptr 1 6 0);
+      answer = ok [];
+      after = picture usual (nursery 0 0 0 absent [] []) (elder 0 (present ((4, 1) ∷ [])) (1 ∷ []) (ptr 1 6 0));
+      roots = [];
+    }
     -- counting out asks for a count, and does nothing on an absent barrier
     ∷ refuses 10 (picture usual (nursery 0 0 0 absent [] []) (elder 0 (present ((4, 1) ∷ [])) (1 ∷ []) (ptr 0 3 0))) (puts (to 1 0 0) (int 7))
     ∷ record {
@@ -810,6 +1028,7 @@ limitRows =
     -- then one, own or foreign
     ∷ refuses 11 (picture usual (nursery 1 0 full absent (1 ∷ []) []) unused) (wants (ptr 0 0 0) 3)
     ∷ refuses 11 (picture usual (nursery 1 0 full absent (1 ∷ []) []) unused) (wants (ptr 1 3 0) 3)
+    ∷ refuses 11 (picture usual (nursery 1 0 (full - 1) absent (1 ∷ []) []) unused) (wants (ptr 1 3 0 ++ ptr 0 0 0) 3)
     ∷ record {
       before = picture usual (nursery 1 0 (full - 1) absent (1 ∷ []) (int 7)) unused;
       trial = wants (ptr 0 0 0) 3;
@@ -829,6 +1048,14 @@ limitRows =
       trial = wants (ptr 0 0 0) 3;
       answer = at 0 0 0 1 1 1 1;
       after = picture (sizes 4 1 8 16) (thenThree 1) (elder full absent (1 ∷ []) (int 7));
+      roots = ptr 1 0 0;
+    }
+    -- asked only where the elder is collected
+    ∷ record {
+      before = picture usual oneCell (elder full absent [] []);
+      trial = wants (ptr 0 0 0) 3;
+      answer = at 0 0 0 1 1 0 0;
+      after = picture usual (thenThree 1) (elder full absent (1 ∷ []) (int 7));
       roots = ptr 1 0 0;
     }
     -- before 10 of what is dropped, and before 7
@@ -879,6 +1106,7 @@ sizeRows : List Row
 sizeRows =
     -- a fresh heap has zero everywhere after the first four words, whatever stood there
     record { before = replicate 594 7; trial = makes usual; answer = ok []; after = clean usual; roots = [] }
+    ∷ record { before = replicate 547 7; trial = makes (sizes 4 1 3 2); answer = ok []; after = clean (sizes 4 1 3 2); roots = [] }
     ∷ refuses 1 (replicate 593 7) (makes usual)
     ∷ refuses 1 (replicate 595 7) (makes usual)
     -- each size at its bound, asked of the sizes alone: the image would have 213,514 words
@@ -891,6 +1119,7 @@ sizeRows =
     -- the same asked of an image
     ∷ refuses 1 (clean (sizes 4 8193 8 16)) (puts (to 0 0 0) (int 7))
     ∷ refuses 1 (clean (sizes 4 8193 8 16)) (wants [] 1)
+    ∷ refuses 1 (clean (sizes 4 0x1_0000_0008 8 16)) (looks (to 0 0 0))
     ∷ refuses 1 (take 593 (clean usual)) reports
     ∷ refuses 1 (clean usual ++ 0 ∷ []) (looks (to 0 0 0))
     -- an image shorter than its four size words
@@ -944,11 +1173,13 @@ formRows =
     ∷ spoilt 9 2
     ∷ spoilt 10 (suc full)
     ∷ spoilt 521 (suc full)
+    ∷ shows (picture usual (nursery 0 0 0 (present []) [] (int 7)) (elder 0 (present []) [] [])) (to 0 0 0) (int 7)
     ∷ refuses 2 (changed ((265, 1) ∷ []) (clean usual)) (wants [] 1)
     ∷ refuses 2 (changed ((521, 1) ∷ []) (clean usual)) reports
     -- allocations fill 0 to cursor without gaps: gaps, a length inside an allocation, one behind the cursor, too short, too long
     ∷ refuses 2 (picture usual (nursery 2 0 0 absent (1 ∷ 0 ∷ 1 ∷ []) []) unused) (looks (to 0 0 0))
     ∷ refuses 2 (picture usual (nursery 3 0 0 absent (1 ∷ 0 ∷ 1 ∷ []) []) unused) (looks (to 0 0 0))
+    ∷ refuses 2 (picture usual (nursery 1 0 0 absent (1 ∷ 0 ∷ 1 ∷ []) []) unused) (looks (to 0 0 0))
     ∷ spoilt 522 0
     ∷ spoilt 523 0
     ∷ spoilt 523 1
@@ -961,6 +1192,10 @@ formRows =
     ∷ spoilt 531 6
     ∷ spoilt 530 least
     ∷ spoilt 530 1
+    -- each call asks all of it
+    ∷ refuses 2 (picture usual (nursery 0 0 0 absent [] (bool 2)) unused) (puts (to 0 0 1) (int 7))
+    ∷ refuses 2 (picture usual (nursery 0 0 0 absent [] (bool 2)) unused) (wants [] 1)
+    ∷ refuses 2 (picture usual (nursery 0 0 0 absent [] (bool 2)) unused) reports
     -- the words behind the elder's cells are zero
     ∷ spoilt 567 1
     ∷ spoilt 568 1
@@ -1015,13 +1250,17 @@ cellRows =
     ++ accepted (2 ∷ 0 ∷ 0 ∷ [])
     ++ accepted (2 ∷ 1 ∷ 0 ∷ [])
     ++ rejected (2 ∷ 2 ∷ 0 ∷ [])
+    ++ rejected (2 ∷ 256 ∷ 0 ∷ [])
     ++ rejected (2 ∷ 1 ∷ 1 ∷ [])
     ++ rejected (258 ∷ 1 ∷ 0 ∷ [])
-    -- Float, also a NaN with payload and sign
+    -- Float, also −0 and a NaN with payload and sign
+    ++ accepted (3 ∷ least ∷ 0 ∷ [])
     ++ accepted (3 ∷ minus1 ∷ 0 ∷ [])
     ++ rejected (3 ∷ 0 ∷ 1 ∷ [])
     ++ rejected (259 ∷ 0 ∷ 0 ∷ [])
     -- Char
+    ++ accepted (4 ∷ 0 ∷ 0 ∷ [])
+    ++ rejected (4 ∷ 0x1_0000_0041 ∷ 0 ∷ [])
     ++ accepted (4 ∷ 0xD7FF ∷ 0 ∷ [])
     ++ rejected (4 ∷ 0xD800 ∷ 0 ∷ [])
     ++ rejected (4 ∷ 0xDFFF ∷ 0 ∷ [])
@@ -1038,6 +1277,11 @@ cellRows =
     -- no other kind
     ++ rejected (6 ∷ 0 ∷ 0 ∷ [])
     ++ rejected (255 ∷ 0 ∷ 0 ∷ [])
+    -- each of several
+    ++ record { before = []; trial = judges (int 7 ++ bool 1); answer = ok []; after = []; roots = [] }
+    ∷ refuses 3 [] (judges (int 7 ++ bool 2))
+    ∷ refuses 3 [] (judges (bool 2 ++ int 7))
+    ∷ []
 
 -- 3, 4 and 5, and the order of 1 to 5
 askedRows : List Row
@@ -1051,9 +1295,6 @@ askedRows =
     ∷ refuses 3 (clean usual) (puts (to 0 0 0) [])
     ∷ refuses 3 (clean usual) (puts (to 0 0 0) (1 ∷ 7 ∷ []))
     ∷ refuses 3 (clean usual) (puts (to 0 0 0) (int 7 ++ int 8))
-    -- 4,096 root cells are the most: then scratch is asked
-    ∷ refuses 4 (clean usual) (calls (allocs (replicate 12288 0) 0 1))
-    ∷ refuses 3 (clean usual) (calls (allocs (replicate 12291 0) 0 1))
     -- scratch of 594 + 4 × (2 + 2 × 4) + 3 × (2 + 8 + 16) words, and of one less
     ∷ record {
       before = clean usual;
@@ -1074,6 +1315,7 @@ askedRows =
     ∷ refuses 4 (clean (sizes 5 8 3 2)) (calls (allocs [] 605 1))
     -- the amount is an i64
     ∷ refuses 5 (clean usual) (wants [] least)
+    ∷ refuses 7 (clean usual) (wants [] 0x1_0000_0001)
     ∷ refuses 7 (clean usual) (wants [] greatest)
     -- 1, then 2, then 3, then 4, then 5, then the collection's questions
     ∷ refuses 1 (take 593 (changed ((4, 4) ∷ []) (clean usual))) (calls (allocs (0 ∷ []) 0 0))
@@ -1081,8 +1323,11 @@ askedRows =
     ∷ refuses 3 (clean usual) (calls (allocs (0 ∷ []) 0 0))
     ∷ refuses 4 (clean usual) (calls (allocs (ptr 0 1 0) 0 0))
     ∷ refuses 5 (clean usual) (wants (ptr 0 1 0) 0)
-    -- a write asks 3 of its value before 8 of its pointer
+    -- a write asks 3 of its value before 8 and 9 of its pointer
     ∷ refuses 3 (clean usual) (puts (to 2 0 0) (bool 2))
+    ∷ refuses 3 (clean usual) (puts (to 0 greatest 0) (bool 2))
+    ∷ refuses 3 (clean usual) (puts (to 0 greatest 1) (bool 2))
+    ∷ refuses 3 (clean usual) (puts (to 1 0 0) (bool 2))
     ∷ refuses 2 (changed ((4, 4) ∷ []) (clean usual)) (puts (to 2 0 0) (bool 2))
     ∷ refuses 1 (take 593 (clean usual)) (puts (to 2 0 0) (bool 2))
     ∷ []
@@ -1110,6 +1355,7 @@ reportRows =
     }
     -- 11 for the nursery's counter, 11 for the elder's, then 10
     ∷ refuses 11 (picture usual (nursery 0 full 0 absent [] []) unused) reports
+    ∷ refuses 11 (picture usual (nursery 0 full 0 absent [] []) (elder 0 (present ((4, 1) ∷ [])) (1 ∷ []) (ptr 0 3 0))) reports
     ∷ refuses 11 (picture usual (nursery 0 0 0 absent [] []) (elder full absent [] [])) reports
     ∷ refuses 10 (picture usual (nursery 0 0 0 absent [] []) (elder 0 (present ((4, 1) ∷ [])) (1 ∷ []) (ptr 0 3 0))) reports
     ∷ refuses 11 (picture usual (nursery 0 0 0 absent [] []) (elder full (present ((4, 1) ∷ [])) (1 ∷ []) (ptr 0 3 0))) reports
@@ -1122,6 +1368,9 @@ figureRows =
     figured 0xBFB0_0000_0000_0000 1 63
     ∷ figured 0x3F40_624D_D2F1_A9FC 0 1
     ∷ figured 0x3F40_624D_D2F1_A9FB 0 0
+    ∷ figured 0xBF40_624D_D2F1_A9FC 1 1
+    -- of the exact product: 1.0005 is just below half, its product with 1,000 as a Float is half
+    ∷ figured 0x3FF0_020C_49BA_5E35 0 1000
     -- 1.5, −1.5, −0, the smallest Float
     ∷ figured 0x3FF8_0000_0000_0000 0 1500
     ∷ figured 0xBFF8_0000_0000_0000 1 1500
@@ -1183,6 +1432,12 @@ wordsRun =
     ∷ (SET 8 5 1 0 greatest, "14 set")
     ∷ (LOAD 7 8 1, "15 no 9")
     ∷ (LOAD 7 8 0, "16 no 8")
+    ∷ (SET 8 5 0 minus1 greatest, "17 set")
+    ∷ (LOAD 7 8 1, "18 no 9")
+    ∷ (SET 8 5 1 greatest 1, "19 set")
+    ∷ (LOAD 7 8 0, "20 no 8")
+    ∷ (SET 8 5 1 minus1 greatest, "21 set")
+    ∷ (LOAD 7 8 1, "22 no 9")
     ∷ []
 
 -- the destination register is a root of its own alloc, and takes the result last
@@ -1198,6 +1453,68 @@ ownRootRun =
     ∷ (REPORT, "8 report 2 0 0 0 4 2 0 3 8 0 0")
     ∷ []
 
+-- an added offset below zero, in the elder; each kind is printed as its words, unsigned; a load changes its register; register 15
+-- keeps its Float over a report, and keeps no array
+registersRun : List (List ℕ × String)
+registersRun =
+    (NEW 4 8 8 16, "1 new")
+    ∷ (ALLOC 0 4, "2 alloc 1 0 0 1 0 0 0")
+    ∷ (SET 1 1 0 minus1 0, "3 set")
+    ∷ (SET 2 5 1 0 1, "4 set")
+    ∷ (STORE 1 2 minus1, "5 store")
+    ∷ (LOAD 3 2 minus1, "6 load 1 0 18446744073709551615 0")
+    ∷ (SET 15 3 0 0xBFF8_0000_0000_0000 0, "7 set")
+    ∷ (STORE 15 0 2, "8 store")
+    ∷ (LOAD 3 0 2, "9 load 3 0 13832806255468478464 0")
+    ∷ (FIGURE 3, "10 figure -1.500")
+    ∷ (SET 1 4 0 65 0, "11 set")
+    ∷ (STORE 1 0 1, "12 store")
+    ∷ (LOAD 3 0 1, "13 load 4 0 65 0")
+    ∷ (SET 1 5 0 minus1 0, "14 set")
+    ∷ (STORE 1 0 3, "15 store")
+    ∷ (LOAD 3 0 3, "16 load 5 0 18446744073709551615 0")
+    ∷ (REPORT, "17 report 1 0 0 0 4 0 0 1 4 1 0")
+    ∷ (REPORT, "18 report 2 0 0 0 4 0 1 0 0 0 0")
+    ∷ (FIGURE 15, "19 figure -1.500")
+    ∷ []
+
+-- registers are Uninitialized at first; they keep what they hold over `new` and over a refusal
+keptRun : List (List ℕ × String)
+keptRun =
+    (SET 0 5 0 0 0, "1 set")
+    ∷ (NEW 4 8 8 16, "2 new")
+    ∷ (LOAD 1 0 0, "3 load 0 0 0 0")
+    ∷ (STORE 2 0 0, "4 store")
+    ∷ (LOAD 1 0 0, "5 load 0 0 0 0")
+    ∷ (SET 1 1 0 7 0, "6 set")
+    ∷ (LOAD 1 0 4, "7 no 8")
+    ∷ (SET 1 2 0 2 0, "8 no 3")
+    ∷ (STORE 1 0 0, "9 store")
+    ∷ (LOAD 2 0 0, "10 load 1 0 7 0")
+    ∷ []
+
+-- set asks of every word; figure of the kind, and a figure above −1 has its sign
+setRun : List (List ℕ × String)
+setRun =
+    (SET 0 1 1 7 0, "1 no 3")
+    ∷ (SET 0 1 0 7 1, "2 no 3")
+    ∷ (SET 0 0 0 1 0, "3 no 3")
+    ∷ (SET 5 2 0 1 0, "4 set")
+    ∷ (SET 0 1 0 7 0, "5 set")
+    ∷ (FIGURE 0, "6 no 15")
+    ∷ (SET 0 3 0 0xBFB0_0000_0000_0000 0, "7 set")
+    ∷ (FIGURE 0, "8 figure -0.063")
+    ∷ []
+
+-- a number below 1,000 in decimal
+numeral : ℕ → List ℕ
+numeral n = cond (ltb n 100) [] ((48 + n / 100) ∷ []) ++ cond (ltb n 10) [] ((48 + n / 10 % 10) ∷ []) ++ (48 + n % 10) ∷ []
+
+-- what k reports without a heap print, the first of them command n
+unanswered : ℕ → ℕ → List ℕ
+unanswered zero n = []
+unanswered (suc k) n = numeral n ++ bytes " no 14" ++ 0x0A ∷ unanswered k (suc n)
+
 commandRows : List Row
 commandRows =
     -- an empty file prints nothing
@@ -1205,10 +1522,35 @@ commandRows =
     ∷ prints ordersRun
     ∷ prints wordsRun
     ∷ prints ownRootRun
+    ∷ prints registersRun
+    ∷ prints keptRun
+    ∷ prints setRun
+    -- a refused alloc leaves the heap
+    ∷ prints ((NEW 4 8 0 0, "1 new") ∷ (ALLOC 0 1, "2 alloc 0 0 0 0 0 0 0") ∷ (ALLOC 1 4, "3 no 7") ∷ (REPORT, "4 report 0 1 1 0 3 0 0 0 0 0 0") ∷ [])
+    -- a heap without any room
+    ∷ prints ((NEW 0 0 0 0, "1 new") ∷ [])
+    -- a line's number, and an alloc's offset, signed
+    ∷ written 65536 (noLine 14) "65536 no 14"
+    ∷ written 1 (allocLine (to 1 7 12) (1 ∷ 2 ∷ 3 ∷ 4 ∷ [])) "1 alloc 1 7 12 1 2 3 4"
+    ∷ written 1 (allocLine (to 0 minus1 greatest) []) "1 alloc 0 18446744073709551615 9223372036854775807"
+    ∷ written 1 (allocLine (to 0 0 least) []) "1 alloc 0 0 -9223372036854775808"
+    ∷ written 1 (allocLine (to 0 0 minus1) []) "1 alloc 0 0 -1"
+    -- 256 commands, each with its number
+    ∷ record { before = []; trial = runs (replicate 256 0x52); answer = ok (unanswered 256 1); after = []; roots = [] }
     -- a report collects: the next one finds nothing
     ∷ prints ((NEW 4 8 8 16, "1 new") ∷ (ALLOC 0 2, "2 alloc 0 0 0 0 0 0 0") ∷ (REPORT, "3 report 0 1 2 0 2 0 0 0 0 0 0") ∷ (REPORT, "4 report 1 0 0 0 4 0 1 0 0 0 0") ∷ [])
-    -- 12: a command not known, its operands cut short, a register of 16. A no ends the run
+    -- a command, and the bytes after it; 12: none, one not known, its operands cut short, a register of 16
+    ∷ record { before = []; trial = parses (FIGURE 15 ++ 7 ∷ 8 ∷ []); answer = ok (7 ∷ 8 ∷ []); after = []; roots = [] }
+    ∷ refuses 12 [] (parses [])
+    ∷ refuses 12 [] (parses (0x45 ∷ []))
+    ∷ refuses 12 [] (parses (0x46 ∷ []))
+    ∷ refuses 12 [] (parses (FIGURE 16))
+    ∷ record { before = []; trial = parsesAll (REPORT ++ FIGURE 15 ++ 0x72 ∷ 7 ∷ []); answer = ok (0x72 ∷ 7 ∷ []); after = []; roots = [] }
+    -- in a file: its no ends the run
     ∷ prints ((REPORT, "1 no 14") ∷ (0 ∷ REPORT, "2 no 12") ∷ [])
+    ∷ prints ((0x72 ∷ [], "1 no 12") ∷ [])
+    ∷ prints ((0xD2 ∷ [], "1 no 12") ∷ [])
+    ∷ prints ((0x0A ∷ REPORT, "1 no 12") ∷ [])
     ∷ prints ((0x4E ∷ 4 ∷ 0 ∷ 8 ∷ 0 ∷ 8 ∷ 0 ∷ 16 ∷ [], "1 no 12") ∷ [])
     ∷ prints ((ALLOC 16 1 ++ REPORT, "1 no 12") ∷ [])
     ∷ prints ((SET 16 0 0 0 0, "1 no 12") ∷ [])
@@ -1217,26 +1559,35 @@ commandRows =
     ∷ prints ((STORE 16 0 0, "1 no 12") ∷ [])
     ∷ prints ((STORE 0 16 0, "1 no 12") ∷ [])
     ∷ prints ((FIGURE 16, "1 no 12") ∷ [])
+    ∷ []
+
+-- Bounds that only long inputs reach
+longRows : List Row
+longRows =
+    -- 4,096 root cells are the most: then scratch is asked
+    refuses 4 (clean usual) (calls (allocs (replicate 12288 0) 0 1))
+    ∷ refuses 3 (clean usual) (calls (allocs (replicate 12291 0) 0 1))
     -- a file of 65,536 bytes is read, a longer one is not
     ∷ prints ((REPORT, "1 no 14") ∷ (replicate 65535 0, "2 no 12") ∷ [])
     ∷ prints ((REPORT ++ replicate 65536 0, "1 no 12") ∷ [])
     ∷ []
 
+-- those that take longest stand last: of a wrong definition only the rows up to the first wrong one are computed
 rows : List Row
-rows = cases ++ nurseryRows ++ elderRows ++ roomRows ++ accessRows ++ limitRows ++ sizeRows ++ formRows ++ cellRows ++ askedRows ++ reportRows ++ figureRows ++ commandRows
+rows = cases ++ nurseryRows ++ elderRows ++ logRows ++ roomRows ++ accessRows ++ limitRows ++ reportRows ++ figureRows ++ commandRows ++ askedRows ++ sizeRows ++ formRows ++ cellRows ++ longRows
 
 all-rows : every rows ≡ true
 unfolding changed padded flagWord countWords picture sizes usual unused clean int bool float char ptr oneCell thenThree
-    minus1 least greatest full figureNumbers outcome same sameAnswer right every
+    minus1 least greatest full figureNumbers pointerNumbers elderNumbers stepNumbers outcome same sameAnswer right every
     to wants looks puts at rootsOf refuses shows figured
-    little NEW ALLOC SET LOAD STORE REPORT FIGURE bytes fileOf listingOf prints
-    firstRun figureRun cases nurseryRows elderRows roomRows accessed intoNursery intoElder accessRows limitRows
+    little NEW ALLOC SET LOAD STORE REPORT FIGURE bytes fileOf listingOf prints written
+    firstRun figureRun cases nurseryRows nineRoots twelveCells elderRows logRows roomRows accessed intoNursery intoElder accessRows limitRows
     sizeRows rich spoilt formRows accepted rejected cellRows askedRows reportRows figureRows
-    ordersRun wordsRun ownRootRun commandRows rows
+    ordersRun wordsRun ownRootRun registersRun keptRun setRun numeral unanswered commandRows longRows rows
     ofBits
     keepIf flat places sum allAtMost
     mem add enter walk closure
-    blank cellWords cellOf cellsOf scalar validPlain valid validWords wholeCells whole samePtr biased sumFits pointers
+    blank cellWords cellOf cellsOf scalar validPlain valid allValid validWords wholeCells whole samePtr biased sumFits pointers
     inHeap pointersTo
     cache most counts count up down countIn countOut masks matchesMask matches
     inBounds fresh part held inUse
