@@ -442,6 +442,14 @@ nurseryRows =
       after = picture usual (nursery 3 0 0 absent (1 ∷ 2 ∷ []) (int 7)) unused;
       roots = [];
     }
+    -- it changes the cursor and one length, and nothing else
+    ∷ record {
+      before = picture usual (nursery 1 2 3 (present ((5, 1) ∷ [])) (1 ∷ []) (ptr 1 5 0)) (elder 4 (present ((6, 2) ∷ [])) (0 ∷ 2 ∷ []) (int 20 ++ ptr 0 6 0));
+      trial = wants (ptr 0 0 0) 2;
+      answer = at 0 1 0 0 0 0 0;
+      after = picture usual (nursery 3 2 3 (present ((5, 1) ∷ [])) (1 ∷ 2 ∷ []) (ptr 1 5 0)) (elder 4 (present ((6, 2) ∷ [])) (0 ∷ 2 ∷ []) (int 20 ++ ptr 0 6 0));
+      roots = ptr 0 0 0;
+    }
     -- cells aren't cleared
     ∷ record {
       before = picture usual (nursery 0 1 0 absent [] (int 7)) unused;
@@ -547,6 +555,14 @@ nurseryRows =
       trial = wants [] 1;
       answer = at 0 0 0 1 1 1 1;
       after = picture (sizes 7 6 8 16) (nursery 1 1 1 absent (1 ∷ []) (ptr 1 5 0 ++ int 11 ++ int 12 ++ int 13 ++ int 14 ++ int 15)) (elder 1 (present []) (0 ∷ 1 ∷ 0 ∷ 0 ∷ 0 ∷ 1 ∷ []) (int 13 ++ int 25));
+      roots = [];
+    }
+    -- a mask has eight bits: 128 moves nursery 128, and not 0
+    ∷ record {
+      before = picture (sizes 130 8 8 16) (nursery 129 0 0 absent (128 ∷ replicate 127 0 ++ 1 ∷ []) []) (elder 0 (present ((128, 1) ∷ [])) [] []);
+      trial = wants [] 1;
+      answer = at 0 0 0 1 1 0 0;
+      after = picture (sizes 130 8 8 16) (nursery 1 1 1 absent (1 ∷ []) []) (elder 0 (present ((128, 1) ∷ [])) (1 ∷ []) []);
       roots = [];
     }
     -- 6 asks of own-heap members: one that a member leads to,
@@ -1476,6 +1492,7 @@ registersRun =
     ∷ (REPORT, "17 report 1 0 0 0 4 0 0 1 4 1 0")
     ∷ (REPORT, "18 report 2 0 0 0 4 0 1 0 0 0 0")
     ∷ (FIGURE 15, "19 figure -1.500")
+    ∷ (FIGURE 15, "20 figure -1.500")
     ∷ []
 
 -- registers are Uninitialized at first; they keep what they hold over `new` and over a refusal
@@ -1489,11 +1506,16 @@ keptRun =
     ∷ (SET 1 1 0 7 0, "6 set")
     ∷ (LOAD 1 0 4, "7 no 8")
     ∷ (SET 1 2 0 2 0, "8 no 3")
-    ∷ (STORE 1 0 0, "9 store")
-    ∷ (LOAD 2 0 0, "10 load 1 0 7 0")
+    ∷ (ALLOC 1 0, "9 no 5")
+    ∷ (STORE 1 0 0, "10 store")
+    ∷ (LOAD 2 0 0, "11 load 1 0 7 0")
+    ∷ (SET 1 3 0 0x7FF8_0000_0000_0000 0, "12 set")
+    ∷ (FIGURE 1, "13 no 15")
+    ∷ (STORE 1 0 0, "14 store")
+    ∷ (LOAD 2 0 0, "15 load 3 0 9221120237041090560 0")
     ∷ []
 
--- set asks of every word; figure of the kind, and a figure above −1 has its sign
+-- set asks of every word; figure of the kind. A figure above −1 has its sign, the largest its six digits
 setRun : List (List ℕ × String)
 setRun =
     (SET 0 1 1 7 0, "1 no 3")
@@ -1504,6 +1526,21 @@ setRun =
     ∷ (FIGURE 0, "6 no 15")
     ∷ (SET 0 3 0 0xBFB0_0000_0000_0000 0, "7 set")
     ∷ (FIGURE 0, "8 figure -0.063")
+    ∷ (SET 0 3 0 0x412E_847F_FFB1_5B57 0, "9 set")
+    ∷ (FIGURE 0, "10 figure 999999.999")
+    ∷ []
+
+-- the last register is a root, and is changed: what is stored into the new array does not show through it
+lastRun : List (List ℕ × String)
+lastRun =
+    (NEW 4 8 8 16, "1 new")
+    ∷ (ALLOC 15 2, "2 alloc 0 0 0 0 0 0 0")
+    ∷ (SET 1 1 0 7 0, "3 set")
+    ∷ (STORE 1 15 1, "4 store")
+    ∷ (ALLOC 14 2, "5 alloc 0 0 0 1 1 0 0")
+    ∷ (SET 1 1 0 8 0, "6 set")
+    ∷ (STORE 1 14 1, "7 store")
+    ∷ (LOAD 2 15 1, "8 load 1 0 7 0")
     ∷ []
 
 -- a number below 1,000 in decimal
@@ -1525,6 +1562,7 @@ commandRows =
     ∷ prints registersRun
     ∷ prints keptRun
     ∷ prints setRun
+    ∷ prints lastRun
     -- a refused alloc leaves the heap
     ∷ prints ((NEW 4 8 0 0, "1 new") ∷ (ALLOC 0 1, "2 alloc 0 0 0 0 0 0 0") ∷ (ALLOC 1 4, "3 no 7") ∷ (REPORT, "4 report 0 1 1 0 3 0 0 0 0 0 0") ∷ [])
     -- a heap without any room
@@ -1583,7 +1621,7 @@ unfolding changed padded flagWord countWords picture sizes usual unused clean in
     little NEW ALLOC SET LOAD STORE REPORT FIGURE bytes fileOf listingOf prints written
     firstRun figureRun cases nurseryRows nineRoots twelveCells elderRows logRows roomRows accessed intoNursery intoElder accessRows limitRows
     sizeRows rich spoilt formRows accepted rejected cellRows askedRows reportRows figureRows
-    ordersRun wordsRun ownRootRun registersRun keptRun setRun numeral unanswered commandRows longRows rows
+    ordersRun wordsRun ownRootRun registersRun keptRun setRun lastRun numeral unanswered commandRows longRows rows
     ofBits
     keepIf flat places sum allAtMost
     mem add enter walk closure
