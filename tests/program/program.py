@@ -14,9 +14,9 @@ PROGRAM = ROOT / "target" / "bin" / "heap"
 
 @cache
 def built() -> Path:
-    """Proved and linked by `rt check`, which explains a failure itself. `rt ci` has done it already."""
-    if not PROGRAM.exists() and subprocess.run(["rt", "check", "heap"], cwd=ROOT, stdout=sys.stderr).returncode:
-        sys.exit("the program was not built")
+    """Where crates/ is newer it is built first, by `build`, which explains a failure itself."""
+    if status := subprocess.run([ROOT / "build", "heap"], stdin=subprocess.DEVNULL).returncode:
+        sys.exit(status)
     return PROGRAM
 
 
