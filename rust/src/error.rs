@@ -23,6 +23,29 @@ impl InterpError {
             Self::Refused(question) => question,
         }
     }
+
+    /// What a no to this question of document 01 says; docs/QUESTIONS.md has what to do about it.
+    #[must_use]
+    pub const fn text(question: u8) -> Option<&'static str> {
+        Some(match question {
+            1 => "sizes are out of bounds, or not those of the image",
+            2 => "the image is not well formed",
+            3 => "a root or value is no valid cell, or there are more than 4,096 roots",
+            4 => "scratch is too short",
+            5 => "the amount is not above 0",
+            6 => "a live pointer into the nursery has no allocation",
+            7 => "no room in the elder generation",
+            8 => "the pointer leads to no cell",
+            9 => "an index or offset is beyond i64",
+            10 => "a count would fall below 0",
+            11 => "a count or counter would exceed its bound",
+            12 => "a command is unknown, cut short or has a register above 15, or the file is above 65,536 bytes",
+            13 => "the pointer register holds no pointer",
+            14 => "there is no heap yet, or this is a second new",
+            15 => "no finite Float with a figure of at most 999999.999 either way",
+            _ => return None,
+        })
+    }
 }
 
 impl fmt::Display for InterpError {
@@ -32,25 +55,12 @@ impl fmt::Display for InterpError {
             Self::InvalidMemoryAccess(base, offset) => {
                 write!(f, "Uninitialized heap location `{base}` and/or illegal offset `{offset}`")
             }
-            Self::Refused(question) => write!(f, "refused by question {question}: {}", no_to(*question)),
+            Self::Refused(question) => {
+                let text = Self::text(*question).unwrap_or("there is no such question");
+                write!(f, "refused by question {question}: {text}")
+            }
         }
     }
 }
 
 impl error::Error for InterpError {}
-
-const fn no_to(question: u8) -> &'static str {
-    match question {
-        1 => "sizes are out of bounds, or not those of the image",
-        2 => "the image is not well formed",
-        3 => "a root or value is no valid cell, or there are more than 4,096 roots",
-        4 => "scratch is too short",
-        6 => "a live pointer into the nursery has no allocation",
-        7 => "no room in the elder generation",
-        9 => "an index or offset is beyond i64",
-        10 => "a count would fall below 0",
-        11 => "a count or counter would exceed its bound",
-        15 => "no finite Float with a figure of at most 999999.999",
-        _ => "not a question of a library call",
-    }
-}
