@@ -26,6 +26,15 @@ impl Sizes {
     /// The bounds of document 01.
     pub const LARGEST: Self = Self { nursery_cells: 2048, threshold: 8192, elder_slots: 8192, elder_cells: 65536 };
 
+    /// The bytes that a heap of these sizes takes, with its scratch; none where one is out of bounds.
+    #[must_use]
+    pub fn bytes(self) -> Option<u64> {
+        match c::words(self.words()) {
+            0 => None,
+            image => Some(8 * (image + c::scratch(self.words(), MOST_ROOTS))),
+        }
+    }
+
     const fn words(self) -> [u64; 4] {
         [self.nursery_cells as u64, self.threshold as u64, self.elder_slots as u64, self.elder_cells as u64]
     }
