@@ -2,6 +2,7 @@
 """./heap as people call it: every form of input, every mistake, each with its exit status and what stands on both outputs; and when
 it builds, seen with a stand-in for `rt`, which notes each call."""
 import os
+import re
 import shutil
 import subprocess
 import sys
@@ -120,25 +121,34 @@ RT = """#!/bin/sh
 echo "$@" >>rt.log
 echo "rt: stand-in at work"
 [ ! -e broken ] || exit 1
-[ ! -e meanwhile ] || touch crates/heap/src/main.rt
-printf '#!/bin/sh\\ncat; %s\\n' "$(cat says 2>/dev/null)" >made
+[ ! -e meanwhile ] || { sleep 0.1; touch crates/heap/src/main.rt; }
+printf '#!/bin/sh\\n[ $# = 0 ] || echo %s "$@"; cat; %s\\n' "$2" "$(cat says 2>/dev/null)" >made
 chmod +x made
 mkdir -p target/bin
-cmp -s made target/bin/heap || cp made target/bin/heap
+cmp -s made "target/bin/$2" || cp made "target/bin/$2"
 """
+# a second line of the table of subcommands, below the first
+FIRST = re.compile("^ *\"\\$1\" '' heap .*\n", re.M)
+SECOND = "  \"$1\" page pages 'WHO WHEN' 'a page'\n"
 
 
 class Repository:
-    """The scripts over one crate of two files, whose program prints what it reads, and an rt that notes its calls."""
+    """The scripts over two crates, whose programs print their words and what they read, and an rt that notes its calls. The second
+    is that of a subcommand."""
 
     def __init__(self, folder: Path):
         self.folder, self.heap = folder, folder / "heap"
         for script in ("heap", "build"):
             shutil.copy(ROOT / script, folder)
-        (folder / "crates" / "heap" / "src").mkdir(parents=True)
-        self.source = folder / "crates" / "heap" / "src" / "main.rt"
-        self.source.write_text("")
-        (folder / "crates.txt").write_text("heap:\n")
+        table, count = FIRST.subn(lambda line: line[0] + SECOND, self.heap.read_text())
+        if count != 1:
+            raise Wrong("the table of subcommands has no first line")
+        self.heap.write_text(table)
+        for crate in ("pages", "heap"):
+            self.source = folder / "crates" / crate / "src" / "main.rt"
+            self.source.parent.mkdir(parents=True)
+            self.source.write_text("")
+        (folder / "crates.txt").write_text("heap:\npages:\n")
         (folder / "tools").mkdir()
         self.rt = folder / "tools" / "rt"
         self.rt.write_text(RT)
@@ -203,12 +213,29 @@ def building(folder: Path) -> Iterator[str]:
     yield made.wants("the program is ended", 11, status=1, said="ended by signal 9")
 
 
+def subcommands(folder: Path) -> Iterator[str]:
+    made = Repository(folder)
+    (folder / "a.hex").write_text("41")
+    (folder / "page").write_bytes(b"a file\n")
+    made.ran("page", "me", "now")
+    yield made.wants("a subcommand of standard input", 1, "page", "me", "now", out=b"pages me now\ngiven\n")
+    yield made.wants("of a file", 1, "page", "me", "now", str(folder / "a.hex"), out=b"pages me now\nA")
+    yield made.wants("with a word too few", 1, "page", "me", status=2, out=b"", said="WHO WHEN")
+    yield made.wants("with a file too many", 1, "page", "me", "now", "a", "b", status=2, out=b"", said="one file at a time")
+    yield made.wants("a file of its name", 2, str(folder / "page"), out=b"a file\n", said="stand-in at work")
+    if b"./heap page WHO WHEN [FILE]" not in made.ran("--help").out:
+        raise Wrong("the help does not have all subcommands")
+
+
 def main() -> None:
     built()
     heap, names = ROOT / "heap", []
-    with tempfile.TemporaryDirectory() as files, tempfile.TemporaryDirectory() as repository:
+    with tempfile.TemporaryDirectory() as folder:
+        files, one, other = (Path(folder) / name for name in ("files", "one", "other"))
+        for each in (files, one, other):
+            each.mkdir()
         try:
-            for some in (inputs(heap, Path(files)), mistakes(heap, Path(files)), failures(heap), building(Path(repository))):
+            for some in (inputs(heap, files), mistakes(heap, files), failures(heap), building(one), subcommands(other)):
                 names.extend(some)
         except Wrong as wrong:
             sys.exit(f"command line: {wrong}")
