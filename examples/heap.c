@@ -1,8 +1,9 @@
 // A front end's use of the heap: arrays made, written, read and moved by a collection; a refusal, a figure, the report.
 //
-//     gcc -std=c99 -Iinclude -o example examples/heap.c target/staticlib/libheap_c.a && ./example
+//     gcc -std=c99 -Iinclude -o example examples/heap.c lib/libheap_c.a && ./example
 //
-// The library is made by `./build heap_c`; an archive has it in lib/. What the program prints stands in examples/heap.out.
+// lib/ is an archive's; in the repository `./build heap_c` makes target/staticlib/libheap_c.a. What the program prints stands in
+// examples/heap.out.
 #include "heap.h"
 
 #include <inttypes.h>
@@ -10,7 +11,8 @@
 #include <stdlib.h>
 #include <string.h>
 
-enum { N = 4, T = 8, S = 8, C = 16 };
+// With T above S, what was moved to the elder is never collected.
+enum { N = 4, T = 9, S = 8, C = 16 };
 
 // The program's variables, a cell each. They are the roots of every alloc, so that a collection finds and changes them.
 enum { OLD, YOUNG, VARIABLES, VARIABLE_WORDS = VARIABLES * HEAP_CELL_WORDS };

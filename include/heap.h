@@ -52,7 +52,7 @@ enum {
 // ---- Sizes
 
 // Bounds of the sizes, and of an alloc's root cells. n: the nursery's cells. t: the elder is collected when it holds so
-// many arrays. s: the arrays that it has room for. c: its cells.
+// many arrays; read heap_alloc on that. s: the arrays that it has room for. c: its cells.
 enum {
     HEAP_MOST_N = 2048,
     HEAP_MOST_T = 8192,
@@ -89,8 +89,10 @@ enum {
 
 // Makes an array of amount cells. Where amount is not below the nursery's free cells, the nursery is collected: arrays
 // to which roots or the remembered set lead are moved to the elder, and pointers to them are changed, in the heap and in
-// roots. The elder is collected before a move if it holds t arrays or more. So roots must have every pointer that is used
-// later, as a cell; other values may stand beside them.
+// roots. So roots must have every pointer that is used later, as a cell; other values may stand beside them.
+//
+// The elder is collected before a move if it holds t arrays or more, and such a collection can drop or replace arrays that
+// are still pointed to. Where data must stay, take t above s: then the elder is never collected, and 7 says that it is full.
 //
 // In the nursery a new array's cells hold what was there before: write them all before the next alloc. Keep pointers at
 // offset 0 in roots and cells, and add to the offset in a read or write: of each distinct pointer into the nursery a

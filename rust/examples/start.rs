@@ -6,7 +6,8 @@ use gc::error::InterpError;
 use gc::{Collector, Figure, MemoryManager, Sizes, Value};
 
 fn main() -> Result<(), InterpError> {
-    let sizes = Sizes { nursery_cells: 4, threshold: 8, elder_slots: 8, elder_cells: 16 };
+    // with the threshold above the elder's slots, what was moved there is never collected
+    let sizes = Sizes { nursery_cells: 4, threshold: 9, elder_slots: 8, elder_cells: 16 };
     let mut heap = Collector::try_new(sizes)?;
 
     // the roots of every alloc: a collection changes them where their arrays are moved
@@ -15,7 +16,7 @@ fn main() -> Result<(), InterpError> {
     heap.write(&array.add(0), Value::Int(7))?;
     heap.write(&array.add(1), Value::Float(0.25))?;
 
-    // the nursery is full: the array is moved to the elder
+    // two cells of the nursery are free, and an amount must be below that: the array is moved to the elder
     heap.alloc(2, &mut roots)?;
     let Value::Pointer(array) = roots[0] else { unreachable!() };
     assert_eq!(array.heap_id, 1);

@@ -14,7 +14,8 @@ const CELL_WORDS: usize = 3;
 pub struct Sizes {
     /// N: the nursery's cells, at most 2,048
     pub nursery_cells: usize,
-    /// T: the elder generation is collected when it holds so many allocations; at most 8,192
+    /// T: the elder generation is collected when it holds so many allocations and another is moved to it; at most 8,192. Above
+    /// `elder_slots` it never is, and no live array is lost (docs/DIFFERENCES.md, "From the Handbook", 6 and 7).
     pub threshold: usize,
     /// S: the elder's allocations, at most 8,192
     pub elder_slots: usize,

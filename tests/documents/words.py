@@ -94,10 +94,10 @@ COMMANDS: dict[str, Callable[..., bytes]] = {
     "H": lambda: commands.new(4, 8, 8, 16),
     "new NUMBER NUMBER NUMBER NUMBER": lambda *sizes: commands.new(*(unsigned(size, 16) for size in sizes)),
     "alloc NUMBER → REGISTER": lambda amount, to: commands.alloc(register(to), signed(amount)),
-    "set REGISTER = VALUE": lambda to, content: commands.set_value(register(to), value(content)),
-    "load REGISTER from REGISTER [+] NUMBER":
+    "set REGISTER ?= ?VALUE": lambda to, content: commands.set_value(register(to), value(content)),
+    "load REGISTER from REGISTER ?[+] ?NUMBER":
         lambda to, through, added: commands.load(register(to), register(through), signed(added)),
-    "store REGISTER at REGISTER [+] NUMBER":
+    "store REGISTER at REGISTER ?[+] ?NUMBER":
         lambda source, through, added: commands.store(register(source), register(through), signed(added)),
     "report": commands.report,
     "figure REGISTER": lambda of: commands.figure(register(of)),
@@ -130,8 +130,8 @@ def command(words: str) -> bytes:
 
 
 def split(words: str) -> list[str]:
-    """The words of each command, with single blanks."""
-    return [" ".join(part.split()) for part in words.split(";")]
+    """The words of each command, with single blanks; a semicolon may end the last."""
+    return [" ".join(part.split()) for part in words.removesuffix(";").split(";")]
 
 
 def file(words: str) -> bytes:

@@ -65,7 +65,7 @@ def inputs(heap: Path, folder: Path) -> Iterator[str]:
     yield runs("standard input by its name", "-", given=FILE)
     yield runs("a name that begins with a dash", "--", "-c1", cwd=Path(stored("-c1", FILE)).parent)
     yield runs("a name with blanks", stored("a b\\n.hex", FILE.hex(" ").encode()))
-    yield runs("capital digits", stored("c1.hex", FILE.hex().upper().encode()))
+    yield runs("capital digits", stored("c1.HEX", FILE.hex().upper().encode()))
     yield runs("a byte a line, with remarks", stored("l.hex", FILE.hex("\n").replace("\n", "\t# zz\r\n").encode()))
     yield runs("an empty file", stored("empty", b""), out=b"")
     yield runs("hexadecimal text of no byte", stored("e.hex", b"# nothing\n"), out=b"")
@@ -90,13 +90,14 @@ def mistakes(heap: Path, folder: Path) -> Iterator[str]:
 
     yield refuses("a missing file", "missing.hex: No such file", "missing.hex")
     yield refuses("another missing file", "missing: No such file", "missing")
-    yield refuses("no name", "No such file", "")
+    yield refuses("no name", "a file has a name", "")
     yield refuses("a folder", "is a folder", str(folder))
     yield refuses("an unknown option", "unknown option --page", "--page")
     yield refuses("a short one", "unknown option -x", "-x", str(ROOT / "examples" / "c1.hex"))
     yield refuses("two files", "one file at a time", "a", "b")
     yield refuses("standard input closed", "standard input is closed", before=INPUT_CLOSED)
     yield refuses("standard output closed", "standard output is closed", before=OUTPUT_CLOSED)
+    yield refuses("help without an output", "standard output cannot be written", "--help", before=OUTPUT_CLOSED)
     yield unreadable("a digit too many", b"4e 0400\n  4E0", "2:5")
     yield unreadable("digits apart", b"4 e", "1:1")
     yield unreadable("a digit by itself before a remark", b"52\n\n5# 2", "3:1")
@@ -104,6 +105,7 @@ def mistakes(heap: Path, folder: Path) -> Iterator[str]:
     yield unreadable("a letter behind a digit", b"# zz\n52 5g", "2:5")
     yield unreadable("a prefix", b"0x52", "1:2")
     yield unreadable("a byte beyond ASCII", b"52 \xc3\xa9", "1:4")
+    yield unreadable("a byte order mark", b"\xef\xbb\xbf52", "1:1")
     yield unreadable("a zero byte", b"52\0zz", "1:3")
 
 
