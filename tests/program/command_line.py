@@ -70,6 +70,8 @@ def inputs(heap: Path, folder: Path) -> Iterator[str]:
     yield runs("an empty file", stored("empty", b""), out=b"")
     yield runs("hexadecimal text of no byte", stored("e.hex", b"# nothing\n"), out=b"")
     yield runs("a refusal is an answer", given=b"R", out=b"1 no 14\n")
+    yield runs("variables of the caller's", given=FILE, env=os.environ | dict.fromkeys(("text", "words", "file", "said", "is_hex"), "R"))
+    yield runs("a shell that follows POSIX", given=FILE, env=os.environ | {"POSIXLY_CORRECT": "1"})
     yield runs("a file that is too long", stored("long.hex", b"52" * 70_000), out=b"1 no 12\n")
     yield runs("hexadecimal digits in a file that is not .hex", stored("c1.txt", FILE.hex().encode()), out=b"1 no 12\n")
     (folder / "link").symlink_to(heap)
@@ -92,6 +94,7 @@ def mistakes(heap: Path, folder: Path) -> Iterator[str]:
     yield refuses("another missing file", "missing: No such file", "missing")
     yield refuses("no name", "a file has a name", "")
     yield refuses("a folder", "is a folder", str(folder))
+    yield refuses("a missing file, POSIX", "No such file", "missing", env=os.environ | {"POSIXLY_CORRECT": "1"})
     yield refuses("an unknown option", "unknown option --page", "--page")
     yield refuses("a short one", "unknown option -x", "-x", str(ROOT / "examples" / "c1.hex"))
     yield refuses("two files", "one file at a time", "a", "b")
@@ -128,6 +131,7 @@ printf '#!/bin/sh\\n[ $# = 0 ] || echo %s "$@"; cat; %s\\n' "$2" "$(cat says 2>/
 chmod +x made
 mkdir -p target/bin
 cmp -s made "target/bin/$2" || cp made "target/bin/$2"
+[ ! -e wrong ] || exit 1
 """
 # a second line of the table of subcommands, below the first
 FIRST = re.compile("^ *\"\\$1\" '' heap .*\n", re.M)
@@ -202,17 +206,22 @@ def building(folder: Path) -> Iterator[str]:
     (folder / "broken").write_text("")
     yield made.wants("a failed build", 8, status=2, out=b"", said="was not built")
     yield made.wants("and again, though there is a program", 9, status=2, out=b"", said="was not built")
+    (folder / "broken").rename(folder / "wrong")
+    yield made.wants("a program that is made and found wrong", 10, status=2, out=b"", said="was not built")
+    yield made.wants("is not run the next time", 11, status=2, out=b"", said="was not built")
     made.rt.rename(folder / "gone")
-    yield made.wants("no toolchain", 9, status=2, out=b"", said="not on the path")
+    yield made.wants("no toolchain", 11, status=2, out=b"", said="not on the path")
     (folder / "gone").rename(made.rt)
-    (folder / "broken").unlink()
+    (folder / "wrong").unlink()
     (folder / "says").write_text("echo standard output: no room >&2")
     made.ran()
-    yield made.wants("the program says that it failed", 10, status=1, said="standard output: no room")
+    yield made.wants("the program says that it failed", 12, status=1, said="standard output: no room")
     os.utime(made.source)
     (folder / "says").write_text("kill -9 $$")
     made.ran()
-    yield made.wants("the program is ended", 11, status=1, said="ended by signal 9")
+    yield made.wants("the program is ended", 13, status=1, said="ended by signal 9")
+    (folder / "target" / "bin" / "heap").write_bytes(b"\x7fELF of another machine")
+    yield made.wants("a program of another machine", 13, status=2, out=b"", said="cannot be run here")
 
 
 def subcommands(folder: Path) -> Iterator[str]:
