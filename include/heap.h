@@ -23,7 +23,8 @@
 // only the functions below have written since. With any other image their behaviour is undefined. The functions without
 // _formed take an image of any content.
 //
-// Threads. Two calls on one image must not run at the same time. Calls that share no buffer may.
+// Threads. Reads of one image may run at the same time; any other call has its image for itself. Calls that share no buffer
+// may run together.
 #ifndef HEAP_H
 #define HEAP_H
 
@@ -87,12 +88,13 @@ enum {
     HEAP_ALLOC_WORDS
 };
 
-// Makes an array of amount cells. Where amount is not below the nursery's free cells, the nursery is collected: arrays
-// to which roots or the remembered set lead are moved to the elder, and pointers to them are changed, in the heap and in
-// roots. So roots must have every pointer that is used later, as a cell; other values may stand beside them.
+// Makes an array of amount cells, in the nursery if amount is below its free cells. Otherwise the nursery is collected, and
+// the array made there if amount is below n, else in the elder. In a collection arrays to which roots or the remembered set
+// lead are moved to the elder, and pointers to them are changed, in the heap and in roots. So roots must have every pointer that is used later, as a cell; other values may stand beside them.
 //
 // The elder is collected before a move if it holds t arrays or more, and such a collection can drop or replace arrays that
-// are still pointed to. Where data must stay, take t above s: then the elder is never collected, and 7 says that it is full.
+// are still pointed to. Where data must stay, take s up to 8,191 and t above it: then the elder is never collected, and 7
+// says that it is full.
 //
 // In the nursery a new array's cells hold what was there before: write them all before the next alloc. Keep pointers at
 // offset 0 in roots and cells, and add to the offset in a read or write: of each distinct pointer into the nursery a
@@ -148,7 +150,8 @@ enum {
     HEAP_REPORT_WORDS
 };
 
-// Takes the heap's numbers, then collects both generations without roots or remembered sets: no array stays.
+// Takes the heap's numbers, then collects both generations without roots or remembered sets: no array stays, and pointers
+// that roots still hold lead nowhere (6 at an alloc that collects).
 // refused by: 1 2 10 11
 uint64_t heap_report(uint64_t *image, uint64_t length, uint64_t out[HEAP_REPORT_WORDS]);
 

@@ -134,10 +134,13 @@ impl Collector {
     /// 3, 5, 6, 7, 10 or 11. Roots are then unchanged.
     pub fn alloc_counted(&mut self, amount: i64, roots: &mut [Value]) -> Result<(Pointer, Counts), InterpError> {
         self.roots.clear();
-        for root in roots.iter() {
-            if let Value::Pointer(pointer) = root {
-                self.roots.extend_from_slice(&pointer.to_words());
-            }
+        let pointers = roots.iter().filter_map(|root| match root {
+            Value::Pointer(pointer) => Some(pointer),
+            _ => None,
+        });
+        // one too many is refused as all of them would be, by 3
+        for pointer in pointers.take(MOST_ROOTS as usize + 1) {
+            self.roots.extend_from_slice(&pointer.to_words());
         }
         let [heap, base, offset, nursery_collections, nursery_visits, elder_collections, elder_visits] =
             self.alloc_in_image(amount).map_err(|question| match question {

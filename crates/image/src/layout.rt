@@ -1,5 +1,5 @@
 // Where the parts of an image stand. Code has these offsets from here alone. What follows from them, and moves with them: the parts of
-// scratch (cycle, scratch.rt), the lengths of the program's buffers (heap, main.rt), a bound in fields (count_place).
+// scratch (cycle, scratch.rt), the lengths of the program's buffers (heap, main.rt), bounds in fields (flag_place, count_place).
 ghost use mathlib.Core.Path.{_≡_};
 ghost use Prim.Native.Nat.{_+_, _*_, _≤_};
 ghost use Rattle.image.specs.Places.{slotLengthsAt, youngCellsAt, oldCellsAt, imageEnd};
