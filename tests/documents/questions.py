@@ -3,9 +3,9 @@ import re
 from typing import NamedTuple
 
 from inputs import ROOT, Wrong, in_text
+from numbered import NUMBERED, lists
 
 QUESTIONS = "docs/QUESTIONS.md"
-NUMBERED = "crates/theorems/specs/Numbered.antt"
 TESTS = "rust/tests/questions.rs"
 
 # of the library's calls, by the names that Numbered has
@@ -34,20 +34,6 @@ def rows() -> list[Row]:
             if len(cells) != len(Row._fields) - 1:
                 raise Wrong(f"{QUESTIONS}: row {number} has {1 + len(cells)} columns")
             found.append(Row(int(number), *cells))
-    return found
-
-
-def lists() -> dict[str, list[int]]:
-    """The lists of numbers in Numbered, each by its function and the constructor that it is given for."""
-    found: dict[str, list[int]] = {}
-    for line in (ROOT / NUMBERED).read_text().splitlines():
-        if line.startswith("--") or " = " not in line:
-            continue
-        clause = re.fullmatch(r"(\w+)(?: (\w+)| \((\w+)[^=]*\))? = ((?:\d+ ∷ )*)(\[\]|\w+)", line)
-        if not clause or clause[5] not in ("[]", *found):
-            raise Wrong(f"{NUMBERED}: cannot be read: {line}")
-        name = " ".join(filter(None, clause.group(1, 2, 3)))
-        found[name] = [int(number) for number in re.findall(r"\d+", clause[4])] + found.get(clause[5], [])
     return found
 
 

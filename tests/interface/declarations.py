@@ -12,15 +12,15 @@ from typing import Iterator, NamedTuple
 from unittest import mock
 
 ROOT = Path(__file__).resolve().parents[2]
-sys.path.insert(0, str(ROOT / "tests" / "library"))
+sys.path += [str(ROOT / "tests" / folder) for folder in ("library", "documents")]
 
 import library
+from numbered import NUMBERED, lists
 
 SOURCE = "crates/heap_c/src/lib.rt"
 HEADER = "include/heap.h"
 RUST = "rust/src/c.rs"
 PYTHON = "tests/library/library.py"
-NUMBERED = "crates/theorems/specs/Numbered.antt"
 SIZES = "crates/image/src/sizes.rt"
 RUST_SIZES = "rust/src/collector.rs"
 VALUE = "crates/value/src/lib.rt"
@@ -257,27 +257,16 @@ def declarations_apart(files: dict[str, Functions]) -> list[str]:
 # ---- Refusals compared
 
 
-def numbered() -> dict[str, set[int]]:
-    """The lists of Numbered.antt by name, and case if there are cases."""
-    lists: dict[str, set[int]] = {"[]": set()}
-    for name, case, listed in re.findall(r"^(\w+)((?: \(?\w+)?)[^\n=:]* = (.*)$", text_of(NUMBERED), re.M):
-        of = [{int(part)} if part.isdecimal() else lists.get(part) for part in listed.split(" ∷ ")]
-        if None in of:
-            raise Unread(f"{NUMBERED}: {name}{case} = {listed}")
-        lists[name + case.replace("(", "")] = set().union(*of)
-    return lists
-
-
 def refusals_apart(functions: Functions) -> Iterator[str]:
-    lists, stated = {"": set()} | numbered(), c_refusals()
+    known, stated = {"": []} | lists(), c_refusals()
     if len(stated) != text_of(HEADER).count("refused by:"):
         yield f"{HEADER}: a `refused by` without numbers, or without a function on the next line"
     for name in functions:
         listed = REFUSALS.get(name.removesuffix("_formed"))
-        if listed not in lists:
+        if listed not in known:
             yield f"{HEADER}: {name} is refused by {stated.get(name, [])}, and no list of {NUMBERED} is known for it"
             continue
-        wanted = sorted(lists[listed] - (OF_AN_IMAGE if name.endswith("_formed") else set()))
+        wanted = sorted(set(known[listed]) - (OF_AN_IMAGE if name.endswith("_formed") else set()))
         if stated.get(name, []) != wanted:
             yield f"{HEADER}: {name} is refused by {stated.get(name, [])}, {wanted} in {NUMBERED}"
 
