@@ -15,7 +15,7 @@ pub struct Sizes {
     /// N: the nursery's cells, at most 2,048
     pub nursery_cells: usize,
     /// T: the elder generation is collected when it holds so many allocations and another is moved to it; at most 8,192. Above
-    /// `elder_slots` it never is, and no live array is lost (docs/DIFFERENCES.md, "From the Handbook", 6 and 7).
+    /// `elder_slots` it never is, and so drops or replaces no live array (docs/DIFFERENCES.md, "From the Handbook", 6 and 7).
     pub threshold: usize,
     /// S: the elder's allocations, at most 8,192
     pub elder_slots: usize,

@@ -132,6 +132,7 @@ chmod +x made
 mkdir -p target/bin
 cmp -s made "target/bin/$2" || cp made "target/bin/$2"
 [ ! -e wrong ] || exit 1
+[ ! -e killed ] || kill -9 $PPID
 """
 # a second line of the table of subcommands, below the first
 FIRST = re.compile("^ *\"\\$1\" '' heap .*\n", re.M)
@@ -207,21 +208,30 @@ def building(folder: Path) -> Iterator[str]:
     yield made.wants("a failed build", 8, status=2, out=b"", said="was not built")
     yield made.wants("and again, though there is a program", 9, status=2, out=b"", said="was not built")
     (folder / "broken").rename(folder / "wrong")
+    (folder / "says").write_text("true")
     yield made.wants("a program that is made and found wrong", 10, status=2, out=b"", said="was not built")
     yield made.wants("is not run the next time", 11, status=2, out=b"", said="was not built")
+    (folder / "wrong").rename(folder / "killed")
+    (folder / "says").write_text("true; true")
+    yield made.wants("a build that is killed", 12, status=2, out=b"", said=at_work)
+    (folder / "killed").unlink()
+    yield made.wants("begins again", 13, said=at_work)
+    (folder / "target" / "bin" / "heap").unlink()
+    subprocess.run([made.rt, "check", "heap"], cwd=folder, stdout=subprocess.DEVNULL, check=True)
+    yield made.wants("a program that rt made by itself", 14)
+    os.utime(made.source)
     made.rt.rename(folder / "gone")
-    yield made.wants("no toolchain", 11, status=2, out=b"", said="not on the path")
+    yield made.wants("no toolchain", 14, status=2, out=b"", said="not on the path")
     (folder / "gone").rename(made.rt)
-    (folder / "wrong").unlink()
     (folder / "says").write_text("echo standard output: no room >&2")
     made.ran()
-    yield made.wants("the program says that it failed", 12, status=1, said="standard output: no room")
+    yield made.wants("the program says that it failed", 15, status=1, said="standard output: no room")
     os.utime(made.source)
     (folder / "says").write_text("kill -9 $$")
     made.ran()
-    yield made.wants("the program is ended", 13, status=1, said="ended by signal 9")
+    yield made.wants("the program is ended", 16, status=1, said="ended by signal 9")
     (folder / "target" / "bin" / "heap").write_bytes(b"\x7fELF of another machine")
-    yield made.wants("a program of another machine", 13, status=2, out=b"", said="cannot be run here")
+    yield made.wants("a program of another machine", 16, status=2, out=b"", said="cannot be run here")
 
 
 def subcommands(folder: Path) -> Iterator[str]:
