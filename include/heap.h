@@ -164,8 +164,8 @@ uint64_t heap_report_formed(uint64_t *image, uint64_t length, uint64_t out[HEAP_
 // Negative is 1 for a figure below zero, else 0.
 enum { HEAP_FIGURE_NEGATIVE, HEAP_FIGURE_THOUSANDTHS, HEAP_FIGURE_WORDS };
 
-// The Float of these bits to three decimals: its exact value times 1,000, rounded once, half away from zero. At most
-// 999,999,999 thousandths.
+// The Float of these bits to three decimals: its exact value times 1,000, rounded once, a tie to the even one:
+// 0.0625 gives 62, 0.1875 gives 188. At most 999,999,999 thousandths.
 // refused by: 15
 uint64_t heap_figure(uint64_t bits, uint64_t out[HEAP_FIGURE_WORDS]);
 

@@ -4,7 +4,7 @@ use crate::c;
 use crate::error::InterpError;
 use std::fmt;
 
-/// A Float as thousandths, rounded once, half away from zero. Prints with three decimals.
+/// A Float as thousandths, rounded once, a tie to the even one. Prints with three decimals.
 #[derive(Debug, Clone, Copy, PartialEq, Eq)]
 pub struct Figure {
     /// Never set for zero

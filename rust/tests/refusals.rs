@@ -171,7 +171,9 @@ fn report_that_is_refused() {
 #[test]
 fn figures() {
     let text = |number| Figure::of(number).unwrap().to_string();
-    assert_eq!(text(0.0625), "0.063");
+    assert_eq!(text(0.0625), "0.062");
+    assert_eq!(text(0.1875), "0.188");
+    assert_eq!(text(-0.0625), "-0.062");
     assert_eq!(text(-0.0004), "0.000");
     assert_eq!(text(-1.5), "-1.500");
     assert_eq!(text(999_999.999_4), "999999.999");

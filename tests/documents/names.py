@@ -7,12 +7,12 @@
 - A path, or a file's name in backticks, is one of the repository. NAME, EDIT and the like stand for any; target/ is left out.
 - In docs/DEMANDS.md `crate/edit` is an edit. Names right before a file in brackets, as in `a`, `b` and `c` (M/File), are words of
   that file; M/, S/ and P/ are model's specs, theorems' specs and theorems' proofs. A sentence in quotes at the beginning of a row
-  stands in the request or in document 01.
+  stands in the request, or in document 01 or 02.
 - In the documents of NAMED a name in backticks is a word of the code; in an indented block one with _, :: or a capital inside is.
   The parts of a::b or Record.field are words of one file, and of one of the crate's if a is a crate.
 
-The code is all but documents and edits, without comments, and the published Rust. The Rust, the request and document 01 lie in
-GC_SOURCE, or ../shared/docs. Where they are not, PUBLISHED stands for the Rust, and sentences are not looked up."""
+The code is all but documents and edits, without comments, and the published Rust. The Rust, the request and documents 01 and 02 lie
+in GC_SOURCE, or ../shared/docs. Where they are not, PUBLISHED stands for the Rust, and sentences are not looked up."""
 import os
 import re
 import sys
@@ -37,7 +37,6 @@ LINK = re.compile(r"\[[^\]]*\]\(([^)\s]+)\)")
 PATH = re.compile(r"(?<![\w/.-])(?:crates|tests|rust|examples|include|docs)/[\w./*+-]*")
 FILE = re.compile(r"[\w.*+-]+(?:/[\w.*+-]+)*\.(?:antt|rt|rs|py|toml|txt|md|hex|h|c|edit)")
 ANY = re.compile(r"\b(?:NAME|FILE|EDIT|FUNCTION|R-n)\b")
-LATER = "docs/changes"  # a note for each request that is done; there may be none yet
 # what begins as a file in brackets, and what can be read as one, behind its names
 BRACKET = re.compile(r"\(`?(?:[MSP]|crates|tests|rust|include)/[^()]*\)")
 READ = re.compile(r"\(`?([MSP]/\w+|[\w/.+-]+)`?\)")
@@ -102,7 +101,8 @@ def headings(document: Path) -> set[str]:
 
 @cache
 def sentences() -> str:
-    texts = [(SOURCE / name).read_text() for name in ("MISSION.md", "01-scope.md") if (SOURCE / name).is_file()]
+    papers = ("MISSION.md", "01-scope.md", "02-change-requests.md")
+    texts = [(SOURCE / name).read_text() for name in papers if (SOURCE / name).is_file()]
     return " ".join(" ".join(texts).split())
 
 
@@ -123,8 +123,7 @@ def links(document: str, line: str) -> Iterator[str]:
 
 def paths(line: str) -> Iterator[str]:
     for name in (found.rstrip("./") for found in PATH.findall(line)):
-        left_out = "/target/" in name + "/" or name.startswith(LATER) and not (ROOT / LATER).exists()
-        if not left_out and not any(ROOT.glob(ANY.sub("*", name))):
+        if "/target/" not in name + "/" and not any(ROOT.glob(ANY.sub("*", name))):
             yield f"no such path: {name}"
     for name in (word for span in SPAN.findall(line) for word in span.split() if FILE.fullmatch(word) and not PATH.match(word)):
         pattern = re.compile("(?:.*/)?" + re.escape(ANY.sub("*", name)).replace(r"\*", "[^/]*"))
@@ -155,7 +154,7 @@ def demands(line: str) -> Iterator[str]:
                 yield f"{', '.join(missing)} of `{span}` does not stand in {file[1]}"
     for sentence in re.findall(r'^\| "([^|]*)"', line):
         if sentences() and " ".join(sentence.split()) not in sentences():
-            yield f"no sentence of the request or of document 01: {sentence}"
+            yield f"no sentence of the request, or of document 01 or 02: {sentence}"
 
 
 def is_known(name: str) -> bool:

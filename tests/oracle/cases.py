@@ -69,7 +69,11 @@ CASES = {
     ),
     "C12": (
         figure_of(0.0625) + figure_of(-0.0004) + figure_of(float("nan")) + figure_of(999999.9996),
-        "set, figure 0.063, set, figure 0.000, set, no 15, set, no 15",
+        "set, figure 0.062, set, figure 0.000, set, no 15, set, no 15",
+    ),
+    "C12 ties": (
+        figure_of(0.1875) + figure_of(-0.0625) + figure_of(-0.1875) + figure_of(0.3125),
+        "set, figure 0.188, set, figure -0.062, set, figure -0.188, set, figure 0.312",
     ),
     "an empty file": (b"", ""),
 }

@@ -13,15 +13,15 @@ use borrow.Author.Tests.{ne-eqb, lt-leb}
 use Rattle.model.specs.Res.{refuse}
 use Rattle.model.specs.Figure.{rounded, figureOf}
 use Rattle.theorems.specs.Rounding.{Rounds}
-use Rattle.theorems.proofs.Figure.{rounded-rounds, rescaled, rounds-once}
+use Rattle.theorems.proofs.Figure.{rounded-rounds, within-half, rescaled, rounds-once}
 use Rattle.figure.specs.Answer.{limited}
 
 rounded-same : (n d a c : ℕ) → 0 < d → 0 < c → n * c ≡ a * d → rounded n d ≡ rounded a c
-rounded-same n d a c pd pc e = rounds-once (rescaled pd pc e (rounded-rounds n d pd)) (rounded-rounds a c pc)
+rounded-same n d a c pd pc e = rounds-once pc (rescaled pd pc e (rounded-rounds n d pd)) (rounded-rounds a c pc)
 
 none-by : {a c : ℕ} (k : ℕ) → 2 * a < c → Rounds a c k → k ≡ 0
 none-by zero h r = refl
-none-by {a} {c} (suc k) h r = absurd (omega (arith, r .at-least))
+none-by (suc k) h r = absurd (omega (arith, within-half (suc k) (omega arith) r))
 
 pub below-half : (a c : ℕ) → 2 * a < c → rounded a c ≡ 0
 below-half a c h = none-by (rounded a c) h (rounded-rounds a c (omega arith))
@@ -68,7 +68,7 @@ not-finite s false = refl
 
 -- over variables: `omega` reads no number of more than 38 digits
 far : (z y q c k : ℕ) → 0 < z → z ≤ y → 2 ^ 52 * y ≤ q → c ≡ 2 ^ 32 * z → Rounds (1000 * q) c k → 999999999 < k
-far z y q c k p h l e r = lt-of-mul-lt-mul-right c (omega (arith, r .at-most))
+far z y q c k p h l e r = lt-of-mul-lt-mul-right c (omega (arith, within-half k (omega arith) r))
 
 big-by : (s : Bool) (x t : ℕ) → 1042 ≤ x → (b b′ : Bool) → figureOf (cond b (cond b′ (inf s) nan) (odd 53 s (2 ^ 52 + t) x 1074)) ≡ refuse 15
 big-by s x t h true b′ = not-finite s b′

@@ -28,10 +28,14 @@ fn round(a: u64, c: u64) -> u64
 {
     let whole = a / c;
     let rest = a % c;
-    if c - rest <= rest {
+    let missing = c - rest;
+    if rest < missing {
+        return whole;
+    }
+    if missing < rest {
         return whole + 1;
     }
-    whole
+    whole + whole % 2
 }
 
 // The thousandfold of q / 2^h, rounded. From 64 on 2^h is no u64, and the thousandfold is below a half.

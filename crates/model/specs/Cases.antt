@@ -314,10 +314,11 @@ firstRun =
 -- C12, printed
 figureRun : List (List ℕ × String)
 figureRun =
-    (SET 0 3 0 0x3FB0_0000_0000_0000 0 ++ FIGURE 0, "1 set\n2 figure 0.063")
+    (SET 0 3 0 0x3FB0_0000_0000_0000 0 ++ FIGURE 0, "1 set\n2 figure 0.062")
     ∷ (SET 0 3 0 0xBF3A_36E2_EB1C_432D 0 ++ FIGURE 0, "3 set\n4 figure 0.000")
     ∷ (SET 0 3 0 0x7FF8_0000_0000_0000 0 ++ FIGURE 0, "5 set\n6 no 15")
     ∷ (SET 0 3 0 0x412E_847F_FFCB_923A 0 ++ FIGURE 0, "7 set\n8 no 15")
+    ∷ (SET 0 3 0 0x3FC8_0000_0000_0000 0 ++ FIGURE 0, "9 set\n10 figure 0.188")
     ∷ []
 
 -- C1 to C12
@@ -423,11 +424,12 @@ cases =
       roots = [];
     }
     ∷ refuses 10 (picture usual (nursery 2 1 0 (present ((6, 1) ∷ [])) (2 ∷ []) (ptr 1 5 0 ++ ptr 1 6 0)) unused) (puts (to 0 0 0) (int 7))
-    -- C12. Figures: 0.0625 is 0.063, −0.0004 is 0.000, NaN and 999999.9996: 15.
-    ∷ figured 0x3FB0_0000_0000_0000 0 63
+    -- C12, as R-1 amends it. Figures: 0.0625 is 0.062, −0.0004 is 0.000, NaN and 999999.9996: 15. And 0.1875 is 0.188.
+    ∷ figured 0x3FB0_0000_0000_0000 0 62
     ∷ figured 0xBF3A_36E2_EB1C_432D 0 0
     ∷ refuses 15 [] (figures 0x7FF8_0000_0000_0000)
     ∷ refuses 15 [] (figures 0x412E_847F_FFCB_923A)
+    ∷ figured 0x3FC8_0000_0000_0000 0 188
     ∷ prints figureRun
     ∷ []
 
@@ -1380,22 +1382,41 @@ reportRows =
 -- Figures
 figureRows : List Row
 figureRows =
-    -- half away from zero: −0.0625; 0.0005 is just above half a thousandth, the Float below it is not
-    figured 0xBFB0_0000_0000_0000 1 63
+    -- a tie goes to the even thousandth, with either sign: −0.0625 and ±0.3125 towards zero, −0.1875 away from it
+    figured 0xBFB0_0000_0000_0000 1 62
+    ∷ figured 0xBFC8_0000_0000_0000 1 188
+    ∷ figured 0x3FD4_0000_0000_0000 0 312
+    ∷ figured 0xBFD4_0000_0000_0000 1 312
+    -- the Floats beside a tie: above 0.0625, below 0.1875, and their negatives
+    ∷ figured 0x3FB0_0000_0000_0001 0 63
+    ∷ figured 0xBFB0_0000_0000_0001 1 63
+    ∷ figured 0x3FC7_FFFF_FFFF_FFFF 0 187
+    ∷ figured 0xBFC7_FFFF_FFFF_FFFF 1 187
+    -- three quarters are no tie: 0.21875
+    ∷ figured 0x3FCC_0000_0000_0000 0 219
+    -- no Float is half a thousandth: 0.0005 is just above it, the Float below is below
     ∷ figured 0x3F40_624D_D2F1_A9FC 0 1
     ∷ figured 0x3F40_624D_D2F1_A9FB 0 0
     ∷ figured 0xBF40_624D_D2F1_A9FC 1 1
-    -- of the exact product: 1.0005 is just below half, its product with 1,000 as a Float is half
-    ∷ figured 0x3FF0_020C_49BA_5E35 0 1000
+    ∷ figured 0xBF40_624D_D2F1_A9FB 0 0
+    -- of the exact product: 0.0055 is just below a tie, its product with 1,000 as a Float is one
+    ∷ figured 0x3F76_872B_020C_49BA 0 5
     -- 1.5, −1.5, −0, the smallest Float
     ∷ figured 0x3FF8_0000_0000_0000 0 1500
     ∷ figured 0xBFF8_0000_0000_0000 1 1500
     ∷ figured 0x8000_0000_0000_0000 0 0
     ∷ figured 0x0000_0000_0000_0001 0 0
-    -- 15 is judged on the figure: 999999.9994 and its negative are in, 999999.9995 rounds to 1000000.000
+    -- the last ties below the limit: 999999.8125, −999999.9375
+    ∷ figured 0x412E_847F_A000_0000 0 999999812
+    ∷ figured 0xC12E_847F_E000_0000 1 999999938
+    -- 15 is judged on the figure: 999999.9994 and its negative are in, and so is the Float below 999999.9995, which itself rounds to
+    -- 1000000.000
     ∷ figured 0x412E_847F_FFB1_5B57 0 999999999
     ∷ figured 0xC12E_847F_FFB1_5B57 1 999999999
+    ∷ figured 0x412E_847F_FFBE_76C8 0 999999999
+    ∷ figured 0xC12E_847F_FFBE_76C8 1 999999999
     ∷ refuses 15 [] (figures 0x412E_847F_FFBE_76C9)
+    ∷ refuses 15 [] (figures 0xC12E_847F_FFBE_76C9)
     ∷ refuses 15 [] (figures 0xC12E_847F_FFCB_923A)
     -- the infinities, a NaN with payload and sign, the greatest Float
     ∷ refuses 15 [] (figures 0x7FF0_0000_0000_0000)
@@ -1525,7 +1546,7 @@ setRun =
     ∷ (SET 0 1 0 7 0, "5 set")
     ∷ (FIGURE 0, "6 no 15")
     ∷ (SET 0 3 0 0xBFB0_0000_0000_0000 0, "7 set")
-    ∷ (FIGURE 0, "8 figure -0.063")
+    ∷ (FIGURE 0, "8 figure -0.062")
     ∷ (SET 0 3 0 0x412E_847F_FFB1_5B57 0, "9 set")
     ∷ (FIGURE 0, "10 figure 999999.999")
     ∷ []

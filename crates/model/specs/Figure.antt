@@ -1,6 +1,6 @@
--- Figure: the exact product of a Float and 1,000, rounded once to a whole number, half away from zero.
-use mathlib.Core.Bool.{Bool, _&&_}
-use Prim.Native.Nat.{ℕ, _+_, _*_, _/_}
+-- Figure: the exact product of a Float and 1,000, rounded once to a whole number, a tie to the even one.
+use mathlib.Core.Bool.{Bool, _&&_, cond}
+use Prim.Native.Nat.{ℕ, _+_, _*_, _/_, _%_}
 use lib.Dec.{ltb, leb}
 use lib.Ieee.{Float, nan, inf, fin, up, down, binary64, ofBits}
 use Rattle.model.specs.Res.{Res, ok, refuse, _>>=_, ask}
@@ -10,9 +10,12 @@ pub record Figure : Type 0 where
   pub negative : Bool
   pub thousandths : ℕ
 
--- a / c rounded to a whole number, half up
+-- a / c rounded to a whole number: down below a half, up above it; of two that are equally near, the even one
 unfoldable pub rounded : ℕ → ℕ → ℕ
-rounded a c = (2 * a + c) / (2 * c)
+rounded a c =
+    let q = a / c in
+    let r = a % c in
+    cond (ltb (2 * r) c) q (cond (ltb c (2 * r)) (q + 1) (q + q % 2))
 
 -- 15. Is it finite, and its figure at most 999999.999 either way? The number m × 2^e is the fraction (m × up e) / down e.
 unfoldable pub figureOf : Float → Res Figure

@@ -1,6 +1,6 @@
 -- Laws of the definitions' own parts, then the heap's, then the theorems: Image (encode and decode), Kept (what calls leave),
--- Demand (demand 3), Reading (command files), Figure (rounding), Numbered (refusals), Doors and Files (demand 3 for the doors in
--- use and for command files).
+-- Demand (demand 3), Reading (command files), Figure (rounding), Printed (a figure's text), Numbered (refusals), Doors and Files
+-- (demand 3 for the doors in use and for command files).
 pub mod Res
 pub mod Lists
 pub mod Reach
@@ -23,6 +23,7 @@ pub mod Demand
 pub mod Texts
 pub mod Reading
 pub mod Figure
+pub mod Printed
 pub mod Does
 pub mod Apart
 pub mod Parts

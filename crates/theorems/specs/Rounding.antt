@@ -1,21 +1,25 @@
--- Rounding: a figure is a Float's exact value in thousandths, rounded once to a whole number, so it is off by at most half a
--- thousandth. `HasValue x s a c`, with c above 0, says that x is finite, has the sign s, and is a / c in size.
+-- Rounding: a figure is a Float's exact value in thousandths, rounded once to the nearest whole number, and of two that are
+-- equally near to the even one. `HasValue x s a c`, with c above 0, says that x is finite, has the sign s, and is a / c in size.
 use mathlib.Core.Path.{_≡_}
 use mathlib.Core.Bool.{Bool, false}
-use Prim.Native.Nat.{ℕ, _+_, _*_, _≤_, _<_}
+use Prim.Native.Nat.{ℕ, _+_, _-_, _*_, _%_, _≤_, _<_}
 use lib.Ieee.{Float, nan, inf}
 use lib.Ieee.Exact.{HasValue}
 use Rattle.model.specs.Figure.{Figure}
 
--- k is a / c rounded to a whole number: off by at most a half; a tie between j and j + 1 goes away from zero
-pub record Rounds (a c k : ℕ) : Type 0 where
-  pub at-most : 2 * a ≤ 2 * (k * c) + c
-  pub at-least : 2 * (k * c) ≤ 2 * a + c
-  pub tie : (j : ℕ) → 2 * a ≡ (2 * j + 1) * c → k ≡ j + 1
+-- how far two numbers are apart
+abbrev pub apart : ℕ → ℕ → ℕ
+apart x y = x - y + (y - x)
 
--- f is the figure of a / c with the sign s
+-- k is a / c rounded to a whole number: none is nearer, and where another is as near, k is even. Distances are taken c times
+pub record Rounds (a c k : ℕ) : Type 0 where
+  pub nearest : (j : ℕ) → apart (k * c) a ≤ apart (j * c) a
+  pub even : (j : ℕ) → ¬ (j ≡ k) → apart (j * c) a ≡ apart (k * c) a → k % 2 ≡ 0
+
+-- f is the figure of a / c with the sign s, and off by at most half a thousandth
 pub record FigureOf (s : Bool) (a c : ℕ) (f : Figure) : Type 0 where
   pub rounds : Rounds (1000 * a) c (f .thousandths)
+  pub half : 2 * apart (f .thousandths * c) (1000 * a) ≤ c
   pub sign : 0 < f .thousandths → f .negative ≡ s
   pub zero-unsigned : f .thousandths ≡ 0 → f .negative ≡ false
   pub limit : f .thousandths ≤ 999999999

@@ -26,10 +26,12 @@ fn thousandths(bits: u64) -> Option<u128> {
     }
 }
 
-/// product / 2^places to the nearest whole number, half away from zero. A product is below 2^63.
+/// product / 2^places to the nearest whole number, of two equally near to the even one. A product is below 2^63.
 fn rounded(product: u128, places: u64) -> u128 {
     if places > 64 {
         return 0;
     }
-    (product + (1 << (places - 1))) >> places
+    let below = product >> places;
+    // adds one to an odd quotient from a half on, to an even one above a half
+    (product + (1 << (places - 1)) - 1 + below % 2) >> places
 }
