@@ -29,7 +29,7 @@ SHORT = {"M/": "crates/model/specs/", "S/": "crates/theorems/specs/", "P/": "cra
 
 # names of the published Rust that documents cite, and that stand nowhere else in the repository
 PUBLISHED = set("clear_all dec dec_all inc on_write remembered_masks should_collect update_ptr update_remappings".split())
-PUBLISHED_FILES = {"lib.rs", "generation.rs", "error.rs", "01-scope.md"}
+PUBLISHED_FILES = {"lib.rs", "generation.rs", "error.rs", "01-scope.md", "02-change-requests.md"}
 
 NAME = r"[A-Za-z_][\w′]*(?:-[\w′]+)*"
 SPAN = re.compile(r"`([^`]+)`")

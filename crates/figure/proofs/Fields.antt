@@ -13,7 +13,7 @@ use borrow.Author.Tests.{ne-eqb, lt-leb}
 use Rattle.model.specs.Res.{refuse}
 use Rattle.model.specs.Figure.{rounded, figureOf}
 use Rattle.theorems.specs.Rounding.{Rounds}
-use Rattle.theorems.proofs.Figure.{rounded-rounds, within-half, rescaled, rounds-once}
+use Rattle.theorems.proofs.Rounding.{rounded-rounds, within-half, rescaled, rounds-once}
 use Rattle.figure.specs.Answer.{limited}
 
 rounded-same : (n d a c : ℕ) → 0 < d → 0 < c → n * c ≡ a * d → rounded n d ≡ rounded a c

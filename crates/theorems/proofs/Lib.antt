@@ -1,5 +1,5 @@
 -- Laws of the definitions' own parts, then the heap's, then the theorems: Image (encode and decode), Kept (what calls leave),
--- Demand (demand 3), Reading (command files), Figure (rounding), Printed (a figure's text), Numbered (refusals), Doors and Files
+-- Demand (demand 3), Reading (command files), Rounding, Figure and Printed (a figure and its text), Numbered (refusals), Doors and Files
 -- (demand 3 for the doors in use and for command files).
 pub mod Res
 pub mod Lists
@@ -22,6 +22,7 @@ pub mod Kept
 pub mod Demand
 pub mod Texts
 pub mod Reading
+pub mod Rounding
 pub mod Figure
 pub mod Printed
 pub mod Does

@@ -3,7 +3,7 @@ use Prim.Native.Nat.{ℕ, _+_, _*_, _/_, _%_, _^_, _<_, _≤_}
 use native.Mathlib.Nat.{mod-lt, div-add-mod', mul-le-mul-left}
 use native.Mathlib.Omega.{arith}
 use borrow.Author.Needs.{needs}
-use Rattle.theorems.proofs.Figure.{rounded-down, rounded-up, rounded-tie}
+use Rattle.theorems.proofs.Rounding.{rounded-down, rounded-up, rounded-tie}
 use Rattle.figure.proofs.round.Statement.{statement}
 use Rattle.figure.proofs.round.Tie as tie
 
