@@ -6,18 +6,10 @@ use native.Mathlib.Decide.{decLe}
 use native.Mathlib.Nat.{pow-suc}
 use native.Mathlib.Omega.{arith}
 use lib.ListN.{length, set, length-append, length-set}
-use borrow.Author.Tests.{eq-eqb, ne-eqb}
 use Rattle.model.specs.Listing.{digits, decimal}
+use Rattle.theorems.proofs.Printed.{last-digit, more-digits}
 use Rattle.figure.specs.Written.{written, Wrote}
 use Rattle.figure.proofs.Writes.{wrote-none, written-back}
-
-last-digit : (k n : ℕ) → n < 10 → digits (suc k) n ≡ (48 + n % 10) ∷ []
-unfolding digits
-last-digit k n h = rw (eq-eqb (n / 10) 0 (omega arith), digits)
-
-more-digits : (k n : ℕ) → 10 ≤ n → digits (suc k) n ≡ digits k (n / 10) ++ (48 + n % 10) ∷ []
-unfolding digits
-more-digits k n h = rw (ne-eqb (n / 10) 0 (λ e. omega arith), digits)
 
 length-last : (k n : ℕ) → n < 10 → length (digits (suc k) n) ≡ 1
 length-last k n h = rw (last-digit k n h)

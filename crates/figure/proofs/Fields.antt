@@ -1,8 +1,8 @@
--- The figure of a Float by the fields of its bits. How a half is rounded plays no part: all goes by `Rounds`.
+-- The figure of a Float by the fields of its bits. How a tie is rounded plays no part.
 use mathlib.Core.Path.{_≡_, refl, sym, ap, _∙_}
 use mathlib.Core.Bool.{Bool, true, false, cond}
 use Prim.Native.Nat.{ℕ, zero, suc, _+_, _-_, _*_, _^_, _<_, _≤_}
-use native.Mathlib.Nat.{mul-one, mul-le-mul-right, le-add-right, lt-of-mul-lt-mul-right}
+use native.Mathlib.Nat.{mul-one, mul-le-mul-right, le-add-right, lt-of-mul-lt-mul-right, mod-eq-of-lt, div-eq-of-lt}
 use native.Mathlib.Omega.{arith}
 use lib.Dec.{eqb}
 use lib.Pow.{pow-pos, pow-mono, pow-add}
@@ -13,18 +13,11 @@ use borrow.Author.Tests.{ne-eqb, lt-leb}
 use Rattle.model.specs.Res.{refuse}
 use Rattle.model.specs.Figure.{rounded, figureOf}
 use Rattle.theorems.specs.Rounding.{Rounds}
-use Rattle.theorems.proofs.Rounding.{rounded-rounds, within-half, rescaled, rounds-once}
+use Rattle.theorems.proofs.Rounding.{rounded-down, rounded-same, rounded-rounds, within-half}
 use Rattle.figure.specs.Answer.{limited}
 
-rounded-same : (n d a c : ℕ) → 0 < d → 0 < c → n * c ≡ a * d → rounded n d ≡ rounded a c
-rounded-same n d a c pd pc e = rounds-once pc (rescaled pd pc e (rounded-rounds n d pd)) (rounded-rounds a c pc)
-
-none-by : {a c : ℕ} (k : ℕ) → 2 * a < c → Rounds a c k → k ≡ 0
-none-by zero h r = refl
-none-by (suc k) h r = absurd (omega (arith, within-half (suc k) (omega arith) r))
-
 pub below-half : (a c : ℕ) → 2 * a < c → rounded a c ≡ 0
-below-half a c h = none-by (rounded a c) h (rounded-rounds a c (omega arith))
+below-half a c h = let l : a < c = omega arith in rounded-down a c (rw (mod-eq-of-lt l) h) ∙ div-eq-of-lt l
 
 by-value : (x : Float) (s : Bool) (a c : ℕ) → 0 < c → HasValue x s a c → figureOf x ≡ limited s (rounded (1000 * a) c)
 unfolding figureOf

@@ -1387,6 +1387,10 @@ figureRows =
     ∷ figured 0xBFC8_0000_0000_0000 1 188
     ∷ figured 0x3FD4_0000_0000_0000 0 312
     ∷ figured 0xBFD4_0000_0000_0000 1 312
+    -- at any size: 1.0625 and −4096.3125 towards zero, 12.1875 away from it
+    ∷ figured 0x3FF1_0000_0000_0000 0 1062
+    ∷ figured 0xC0B0_0050_0000_0000 1 4096312
+    ∷ figured 0x4028_6000_0000_0000 0 12188
     -- the Floats beside a tie: above 0.0625, below 0.1875, and their negatives
     ∷ figured 0x3FB0_0000_0000_0001 0 63
     ∷ figured 0xBFB0_0000_0000_0001 1 63

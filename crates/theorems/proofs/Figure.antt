@@ -15,14 +15,14 @@ use Rattle.model.specs.Figure.{Figure, rounded, figureOf}
 use Rattle.theorems.specs.Holds.{Holds, such, none}
 use Rattle.theorems.specs.Rounding.{Rounds, FigureOf, NoFigure, not-a-number, infinite, beyond}
 use Rattle.theorems.proofs.Res.{asked}
-use Rattle.theorems.proofs.Rounding.{rounded-rounds, within-half, rounds-once, rescaled}
+use Rattle.theorems.proofs.Rounding.{rounded-same, rounded-rounds, within-half, rounds-once}
 
 -- m × 2^e in thousandths
 abbrev thousandths-of : ℕ → ℤ → ℕ
 thousandths-of m e = rounded (1000 * (m * up e)) (down e)
 
 thousandths-round : (m : ℕ) (e : ℤ) (a : ℕ) {c : ℕ} → 0 < c → m * up e * c ≡ a * down e → Rounds (1000 * a) c (thousandths-of m e)
-thousandths-round m e a p v = rescaled (down-pos e) p (omega arith) (rounded-rounds (1000 * (m * up e)) (down e) (down-pos e))
+thousandths-round m e a {c} p v = rw (rounded-same (1000 * (m * up e)) (down e) (1000 * a) c (down-pos e) p (omega arith)) (rounded-rounds (1000 * a) c p)
 
 pub figure-rounds : (x : Float) (s : Bool) (a c : ℕ) → 0 < c → HasValue x s a c → Holds (FigureOf s a c) (figureOf x)
 unfolding figureOf

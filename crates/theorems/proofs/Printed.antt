@@ -3,12 +3,23 @@ use mathlib.Core.Path.{_≡_, refl, sym, ap, _∙_}
 use mathlib.Core.Bool.{Bool, true, false, cond}
 use mathlib.Core.List.{List, [], _∷_, _++_, append-assoc}
 use Prim.Native.Nat.{ℕ, zero, suc, _+_, _-_, _*_, _/_, _%_, _^_, _≤_, _<_}
+use native.Mathlib.Decide.{decLe}
 use native.Mathlib.Nat.{pow-suc}
 use native.Mathlib.Omega.{arith}
 use lib.Dec.{ltb, eqb}
-use borrow.Author.Tests.{le-ltb, ne-eqb, eqb-true}
+use borrow.Author.Tests.{le-ltb, eq-eqb, ne-eqb}
 use Rattle.model.specs.Figure.{Figure}
 use Rattle.model.specs.Listing.{digits, decimal, figureText}
+
+-- ---- a number's digits
+
+pub last-digit : (k n : ℕ) → n < 10 → digits (suc k) n ≡ (48 + n % 10) ∷ []
+unfolding digits
+last-digit k n h = rw (eq-eqb (n / 10) 0 (omega arith), digits)
+
+pub more-digits : (k n : ℕ) → 10 ≤ n → digits (suc k) n ≡ digits k (n / 10) ++ (48 + n % 10) ∷ []
+unfolding digits
+more-digits k n h = rw (ne-eqb (n / 10) 0 (λ e. omega arith), digits)
 
 -- ---- the number that a text's digits spell, other bytes left out, behind those of n
 
@@ -28,12 +39,14 @@ digit-spelt n d w = let e : 48 + d - 48 ≡ d = omega arith in rw (le-ltb (48 + 
 digits-spelt : (k n : ℕ) → n < 10 ^ k → spelt 0 (digits k n) ≡ n
 unfolding digits spelt
 digits-spelt zero n h = omega arith
-digits-spelt (suc k) n h = go (eqb (n / 10) 0) (eqb-true (n / 10) 0) (digits-spelt k (n / 10) (omega (arith, pow-suc 10 k)))
+digits-spelt (suc k) n h = go (decLe 10 n) (digits-spelt k (n / 10) (omega (arith, pow-suc 10 k)))
   where
-    go : (b : Bool) → (b ≡ true → n / 10 ≡ 0) → spelt 0 (digits k (n / 10)) ≡ n / 10
-        → spelt 0 (elim b [ true ↦ (48 + n % 10) ∷ [] | false ↦ digits k (n / 10) ++ (48 + n % 10) ∷ [] ]) ≡ n
-    go true z s = digit-spelt 0 (n % 10) [] ∙ omega (arith, z refl)
-    go false z s = spelt-join 0 (digits k (n / 10)) ((48 + n % 10) ∷ []) ∙ ap (λ (m : ℕ). spelt m ((48 + n % 10) ∷ [])) s ∙ digit-spelt (n / 10) (n % 10) [] ∙ omega arith
+    last : List ℕ
+    last = (48 + n % 10) ∷ []
+
+    go : Dec (10 ≤ n) → spelt 0 (digits k (n / 10)) ≡ n / 10 → spelt 0 (digits (suc k) n) ≡ n
+    go (yes l) s = rw (more-digits k n l) (spelt-join 0 (digits k (n / 10)) last ∙ ap (λ (m : ℕ). spelt m last) s ∙ digit-spelt (n / 10) (n % 10) [] ∙ omega arith)
+    go (no l) s = rw (last-digit k n (omega arith)) (digit-spelt 0 (n % 10) [] ∙ omega arith)
 
 -- ---- whether it begins with a minus
 
@@ -44,14 +57,14 @@ signed (b ∷ w) = eqb b 0x2D
 digits-unsigned : (k n : ℕ) (w : List ℕ) → signed w ≡ false → signed (digits k n ++ w) ≡ false
 unfolding digits signed
 digits-unsigned zero n w h = h
-digits-unsigned (suc k) n w h = go (eqb (n / 10) 0) (digits-unsigned k (n / 10) ((48 + n % 10) ∷ w) digit)
+digits-unsigned (suc k) n w h = go (decLe 10 n) (digits-unsigned k (n / 10) ((48 + n % 10) ∷ w) digit)
   where
     digit : eqb (48 + n % 10) 0x2D ≡ false
     digit = ne-eqb (48 + n % 10) 0x2D (λ e. omega arith)
 
-    go : (b : Bool) → signed (digits k (n / 10) ++ (48 + n % 10) ∷ w) ≡ false → signed (elim b [ true ↦ (48 + n % 10) ∷ [] | false ↦ digits k (n / 10) ++ (48 + n % 10) ∷ [] ] ++ w) ≡ false
-    go true s = digit
-    go false s = rw append-assoc s
+    go : Dec (10 ≤ n) → signed (digits k (n / 10) ++ (48 + n % 10) ∷ w) ≡ false → signed (digits (suc k) n ++ w) ≡ false
+    go (yes l) s = rw (more-digits k n l, append-assoc) s
+    go (no l) s = rw (last-digit k n (omega arith)) digit
 
 -- ---- a figure's text
 

@@ -1,13 +1,13 @@
 -- A fraction is rounded to the nearest whole number, and of two that are equally near to the even one. One number is that.
-use mathlib.Core.Path.{_≡_, sym, ap, subst, refl, _∙_}
+use mathlib.Core.Path.{_≡_, sym, subst, _∙_}
 use mathlib.Core.Bool.{not}
 use Prim.Native.Nat.{ℕ, zero, suc, _+_, _*_, _/_, _%_, _≤_, _<_, compare, Ordering, Ordering·lt, Ordering·eq, Ordering·gt}
 use native.Mathlib.Decide.{decLt, ℕ-discrete}
-use native.Mathlib.Nat.{le-refl, le-antisymm, add-zero, mul-add, mul-sub, mul-le-mul-left, mul-le-mul-right, le-of-mul-le-mul-left, eq-of-mul-eq-mul-left, mod-lt, div-add-mod'}
+use native.Mathlib.Nat.{le-refl, le-antisymm, add-zero, mul-le-mul-right, mod-lt, div-add-mod'}
 use native.Mathlib.Omega.{arith}
 use lib.Dec.{T, isLe, isEq, eqb, leb→le, nleb→lt, eqb→eq, eqb-refl}
 use lib.Ieee.{nearest}
-use lib.Ieee.Nearest.{closest}
+use lib.Ieee.Nearest.{closest, closest-same}
 use borrow.Author.Tests.{lt-ltb, le-ltb}
 use Rattle.model.specs.Figure.{rounded}
 use Rattle.theorems.specs.Rounding.{apart, Rounds}
@@ -37,6 +37,10 @@ as-ieee a c = go (compare x c) (leb→le x c) (nleb→lt x c) (eqb→eq x c) (λ
     go Ordering·lt le lt eq same = let other : ¬ (x ≡ c) = same in rounded-down a c (omega (arith, le tt))
     go Ordering·eq le lt eq same = rounded-tie a c (omega (arith, eq tt))
     go Ordering·gt le lt eq same = rw (rounded-up a c (omega (arith, lt tt))) (omega arith)
+
+-- how the fraction is written does not matter
+pub rounded-same : (n d a c : ℕ) → 0 < d → 0 < c → n * c ≡ a * d → rounded n d ≡ rounded a c
+rounded-same n d a c p q e = as-ieee n d ∙ closest-same n d a c p q e ∙ sym (as-ieee a c)
 
 -- ---- what is at most a half away, and at a tie even, is what a fraction rounds to
 
@@ -94,20 +98,3 @@ not-below {a} {c} {k} {l} p r q h =
 
 pub rounds-once : {a c k l : ℕ} → 0 < c → Rounds a c k → Rounds a c l → k ≡ l
 rounds-once p r q = omega (arith, not-below p r q, not-below p q r)
-
--- how the fraction is written does not matter
-
-scaled : (d x y : ℕ) → d * apart x y ≡ apart (d * x) (d * y)
-scaled d x y = rw (mul-add, mul-sub d x y, mul-sub d y x) refl
-
-pub rescaled : {n d a c k : ℕ} → 0 < d → 0 < c → n * c ≡ a * d → Rounds n d k → Rounds a c k
-rescaled {n} {d} {a} {c} {k} pd pc e r = record {
-  nearest = λ j. le-of-mul-le-mul-left (rw (same k, same j) (mul-le-mul-left c (r .nearest j))) pd;
-  even = λ j o t. r .even j o (eq-of-mul-eq-mul-left c pc (apart (j * d) n) (apart (k * d) n) (sym (same j) ∙ ap (λ (x : ℕ). d * x) t ∙ same k));
-}
-  where
-    same : (j : ℕ) → d * apart (j * c) a ≡ c * apart (j * d) n
-    same j =
-        let u : d * (j * c) ≡ c * (j * d) = omega arith in
-        let v : d * a ≡ c * n = omega arith in
-        scaled d (j * c) a ∙ rw (u, v) (sym (scaled c (j * d) n))
