@@ -59,7 +59,7 @@ rounds-by a c k h t = record { nearest = λ j. go j (ℕ-discrete j k); even = �
     go j (yes e) = rw e (le-refl (apart (k * c) a))
     go j (no n) = omega (arith, others-far a c k j h n)
 
--- The rule. All below, and all that is said of figures, goes by `Rounds` alone.
+-- The rule. All below goes by `Rounds` alone.
 pub rounded-rounds : (a c : ℕ) → 0 < c → Rounds a c (rounded a c)
 rounded-rounds a c p = go (decLt (2 * (a % c)) c) (decLt c (2 * (a % c)))
   where
