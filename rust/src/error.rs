@@ -24,7 +24,7 @@ impl InterpError {
         }
     }
 
-    /// What a no to this question says; docs/QUESTIONS.md has what to do about it.
+    /// What a no to this question of document 01 says; docs/QUESTIONS.md has what to do about it.
     #[must_use]
     pub const fn text(question: u8) -> Option<&'static str> {
         Some(match question {
@@ -43,9 +43,6 @@ impl InterpError {
             13 => "the pointer register holds no pointer",
             14 => "there is no heap yet, or this is a second new",
             15 => "no finite Float with a figure of at most 999999.999 either way",
-            16 => "the offer's number is not from 1 to 999,999",
-            17 => "the figure has no offer",
-            18 => "this would be the 65th offer",
             _ => return None,
         })
     }

@@ -8,9 +8,6 @@ blanks part a line from a remark:
 
 A block may show the command that runs them, `tests/documents/words.py 'WORDS' | ./heap`. Below a block `./heap examples/NAME.hex`
 lines may stand by themselves, and are that file's.
-
-A line `n no 17` is all of both pages. A block that begins with `./heap page grower examples/NAME.hex`, or with words and
-`| ./heap page grower`, shows that page whole; so for `supplier`.
 """
 import re
 from pathlib import Path
@@ -20,20 +17,17 @@ import words
 
 ROOT = Path(__file__).resolve().parents[2]
 
-LINE = r"\d+ (?:new|alloc|set|load|store|report|figure|offer|no)(?: [-.\w]+)*"
+LINE = r"\d+ (?:new|alloc|set|load|store|report|figure|no)(?: [-.\w]+)*"
 IN_TEXT = re.compile(rf"`([^`]+)`: (`{LINE}`(?:(?:, | and )`{LINE}`)*)")
 SHELL = re.compile(r"tests/documents/words\.py '(.*)' \| \./heap")
 EXAMPLE = re.compile(r"\./heap (examples/\S+\.hex)")
-READERS = ("grower", "supplier")
-PAGE = re.compile(r"\./heap page (\S+) (examples/\S+\.hex)")
-SHELL_PAGE = re.compile(rf"{SHELL.pattern} page (\S+)")
 # what looks like words, readable or not; a `new` or `report` by itself may stand in a text
-WORDS = re.compile(r"(?:→|->) r\d|\b(?:set|load|store|figure) r\d|\b(?:H|new(?: \d+){4}|offers? \d+(?: to \d+)?) *;")
+WORDS = re.compile(r"(?:→|->) r\d|\b(?:set|load|store|figure) r\d|\b(?:H|new(?: \d+){4}) *;")
 # in a column for inputs: a dash, or a test in another language
 NO_INPUT = re.compile("–|.*test `.*")
 
-# an input's bytes, and lines of its listing; or all lines of a page, and its reader
-Found = tuple[bytes, list[str], str]
+# an input's bytes, and lines of its listing
+Found = tuple[bytes, list[str]]
 
 
 class Wrong(Exception):
@@ -41,13 +35,12 @@ class Wrong(Exception):
 
 
 class Worked(NamedTuple):
-    """An input with lines of its listing, or those of a page, and the headings above it, outermost first."""
+    """An input with lines of its listing, and the headings above it, outermost first."""
 
     place: str
     headings: tuple[str, ...]
     file: bytes
     lines: list[str]
-    reader: str
 
 
 def spans(text: str) -> list[str]:
@@ -73,14 +66,8 @@ def bytes_in(example: Path) -> bytes:
     return bytes.fromhex(" ".join(line.partition("#")[0] for line in example.read_text().splitlines()))
 
 
-def found_with(file: bytes, lines: list[str]) -> list[Found]:
-    """17 stands on pages alone."""
-    on_pages = any(line.endswith(" no 17") for line in lines)
-    return [(file, lines, reader) for reader in (READERS if on_pages else ("",))]
-
-
 def in_text(text: str) -> list[Found]:
-    return [one for found in IN_TEXT.finditer(text) for one in found_with(bytes_of(found[1]), spans(found[2]))]
+    return [(bytes_of(found[1]), spans(found[2])) for found in IN_TEXT.finditer(text)]
 
 
 def lines_in_text(text: str) -> list[str]:
@@ -102,17 +89,7 @@ def in_block(rows: list[str]) -> list[Found]:
         if not is_line(line):
             raise Wrong(f"no line of a listing: {line}")
     shell = SHELL.fullmatch(text)
-    return found_with(bytes_of(shell[1] if shell else text), lines) if lines else []
-
-
-def in_page_block(rows: list[str]) -> list[Found]:
-    """None if the block shows no page."""
-    first, page = rows[0].strip(), [row.removeprefix("    ") for row in rows[1:]]
-    if example := PAGE.fullmatch(first):
-        return [(bytes_in(ROOT / example[2]), page, example[1])]
-    if shell := SHELL_PAGE.fullmatch(first):
-        return [(bytes_of(shell[1]), page, shell[2])]
-    return []
+    return [(bytes_of(shell[1] if shell else text), lines)] if lines else []
 
 
 def paragraphs(text: str) -> Iterator[tuple[int, list[str]]]:
@@ -145,9 +122,7 @@ def worked(name: str) -> list[Worked]:
                 headings, shown = (*headings[: len(heading[1]) - 1], heading[2]), None
             elif example := EXAMPLE.fullmatch(text):
                 shown = []
-                found = [(bytes_in(ROOT / example[1]), shown, "")]
-            elif page := in_page_block(rows):
-                found = page
+                found = [(bytes_in(ROOT / example[1]), shown)]
             elif all(row.startswith("    ") for row in rows) and "`" not in text:
                 found = in_block([row.strip() for row in rows])
             else:

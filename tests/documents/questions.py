@@ -41,13 +41,10 @@ def askers() -> dict[int, set[str]]:
     """Who asks each question."""
     numbers = lists()
     commands = {name.partition(" ")[2] for name in numbers if name.startswith("commandNumbers ")}
-    if not commands or not {*CALLS, "listingNumbers", "pageNumbers"} <= numbers.keys():
+    if not commands or not CALLS.keys() <= numbers.keys():
         raise Wrong(f"{NUMBERED}: not all lists are there: {', '.join(numbers)}")
     by_name = {f"call {call}": numbers[name] for name, call in CALLS.items()}
     by_name |= {f"command {command}": [12, *numbers[f"commandNumbers {command}"]] for command in commands}
-    if set(numbers["listingNumbers"]) != {number for name in by_name if name.startswith("command ") for number in by_name[name]}:
-        raise Wrong(f"{NUMBERED}: listingNumbers are not those of the commands")
-    by_name["the pages"] = numbers["pageNumbers"]
     # what no list there has: the file itself, and the figure, which is no call on a heap
     by_name |= {"the file": [12], "call figure": numbers["commandNumbers figure"]}
     return {number: {name for name in by_name if number in by_name[name]} for number in set().union(*by_name.values())}
@@ -59,7 +56,7 @@ def named(row: Row, commands: set[str]) -> set[str]:
     for part in row.of.split("; "):
         if part == "every command":
             found |= commands
-        elif part in ("the file", "the pages"):
+        elif part == "the file":
             found.add(part)
         elif names := re.fullmatch(r"(call|command)s? (`\w+`(?:, `\w+`)*)", part):
             found |= {f"{names[1]} {name}" for name in re.findall(r"\w+", names[2])}
@@ -86,7 +83,7 @@ def check() -> int:
 def check_input(where: str, row: Row) -> None:
     """The last column must get the row's number, by an input or by a test that has its name."""
     test = f"question_{row.question}"
-    for _, lines, _ in in_text(row.input):
+    for _, lines in in_text(row.input):
         if not any(line.endswith(f" no {row.question}") for line in lines):
             raise Wrong(f"{where}: an input shows {', '.join(lines)}")
     if f"test `{test}`" in row.input:

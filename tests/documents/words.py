@@ -13,10 +13,9 @@ Commands stand between semicolons:
     store r1 at r0 + 1
     report
     figure r0
-    offer 7                  later figures are offer 7's; offers 1 to 65 are 65 commands
     bytes 00 4e              bytes as they are
 
-A number is 5, −5, 0x1F, 2^63 or 2^63 − 1. What the heap refuses can be written: register 16, a Bool of 2, offer 0.
+A number is 5, −5, 0x1F, 2^63 or 2^63 − 1. What the heap refuses can be written: register 16, a Bool of 2.
 """
 import argparse
 import re
@@ -102,9 +101,6 @@ COMMANDS: dict[str, Callable[..., bytes]] = {
         lambda source, through, added: commands.store(register(source), register(through), signed(added)),
     "report": commands.report,
     "figure REGISTER": lambda of: commands.figure(register(of)),
-    "offer NUMBER": lambda number: commands.offer(unsigned(number, 32)),
-    "offers NUMBER to NUMBER":
-        lambda first, last: b"".join(map(commands.offer, range(unsigned(first, 16), unsigned(last, 16) + 1))),
     "bytesHEX": bytes.fromhex,
 }
 

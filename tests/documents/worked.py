@@ -1,10 +1,9 @@
 #!/usr/bin/env python3
-"""Runs every worked input of the documents. Each line that a document shows must be that line of the program's listing, and a page
-that it shows must be printed.
+"""Runs every worked input of the documents. Each line that a document shows must be that line of the program's listing.
 
-The listing must also be the oracle's, up to the Rust's first panic, and so must a page. Where DIFFERENCES says that the Rust panics
-it must do so at the line that is shown, and where it says that the Rust is followed the listings must be the same to their end.
-WITHOUT_ORACLE=1 leaves this out.
+The listing must also be the oracle's, up to the Rust's first panic. Where DIFFERENCES says that the Rust panics it must do so at
+the line that is shown, and where it says that the Rust is followed the listings must be the same to their end. WITHOUT_ORACLE=1
+leaves this out.
 
 The table of QUESTIONS must name, for each question, the calls and commands that crates/theorems/specs/Numbered.antt has.
 """
@@ -15,7 +14,7 @@ from pathlib import Path
 HERE = Path(__file__).resolve().parent
 sys.path.insert(0, str(HERE.parent / "program"))
 
-from program import listing, page
+from program import built, listing
 
 import oracle
 import questions
@@ -36,11 +35,6 @@ def found_in(name: str) -> list[Worked]:
     return found
 
 
-def check_page(one: Worked, ours: bytes) -> None:
-    if one.lines != ours.decode().splitlines():
-        raise Wrong(f"{one.place}: the {one.reader}'s page is\n{ours.decode()}")
-
-
 def check_lines(one: Worked, ours: bytes) -> None:
     lines = ours.decode().splitlines()
     for shown in one.lines:
@@ -51,7 +45,7 @@ def check_lines(one: Worked, ours: bytes) -> None:
 
 
 def check_rust(one: Worked, ours: bytes, rust: bytes) -> None:
-    both = f"the program prints:\n{ours.decode()}the oracle:\n{rust.decode()}"
+    both = f"the program's listing:\n{ours.decode()}the oracle's:\n{rust.decode()}"
     if not agree(ours, rust) or FOLLOWED in one.headings and ours != rust:
         raise Wrong(f"{one.place}: not what the oracle prints; {both}")
     if PANICS in one.headings and not (oracle.ends_early(rust) and one.lines[-1] == rust.decode().splitlines()[-1]):
@@ -66,15 +60,15 @@ def check() -> str:
     for heading in (PANICS, FOLLOWED):
         if not any(heading in one.headings for one in everything):
             raise Wrong(f"no input stands below the heading '{heading}'")
-    printed = [page(one.file, one.reader) if one.reader else listing(one.file) for one in everything]
-    for one, ours in zip(everything, printed):
-        (check_page if one.reader else check_lines)(one, ours)
+    built()
+    listings = [listing(one.file) for one in everything]
+    for one, ours in zip(everything, listings):
+        check_lines(one, ours)
     counts = ", ".join(f"{len(inputs)} in {name}" for name, inputs in found.items())
     held = f"{asked} questions are asked where Numbered has them; inputs print what is shown ({counts})"
     if os.environ.get("WITHOUT_ORACLE") == "1":
         return f"{held}; left out: the oracle (WITHOUT_ORACLE=1)"
-    for one, ours in zip(everything, printed):
-        [(_, rust)] = oracle.judged([one.file], one.reader)
+    for one, ours, rust in zip(everything, listings, oracle.listings(one.file for one in everything), strict=True):
         check_rust(one, ours, rust)
     return f"{held}, and what the oracle prints"
 

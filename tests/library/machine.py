@@ -8,7 +8,7 @@ from typing import Callable
 
 from library import Answer, Broken, Lent, Library, Sizes, Target
 
-from commands import LEAST_I64, MOST_I64, MOST_OFFER, MOST_OFFERS, OPERANDS, POINTER, REGISTERS, WORD, split
+from commands import LEAST_I64, MOST_I64, OPERANDS, POINTER, REGISTERS, WORD, split
 
 # the program's limits for N, T, S and C
 LIMITS = Sizes(128, 8192, 128, 512)
@@ -22,7 +22,6 @@ COMMANDS = {
     0x53: ("store", "<BBq", 2),
     0x52: ("report", "<", 0),
     0x46: ("figure", "<B", 1),
-    0x4F: ("offer", "<I", 0),
 }
 # fields of a cell: kind + 256 × heap, payload, offset
 Cell = tuple[int, ...]
@@ -79,13 +78,12 @@ class Heap:
 
 
 class Machine:
-    """The registers, the offers named and, after `new`, the twins. A refused command changes nothing."""
+    """The registers and, after `new`, the twins. A refused command changes nothing."""
 
     def __init__(self, library: Library):
         self.library = library
         self.registers = [UNINITIALIZED] * REGISTERS
         self.heaps: list[Heap] = []
-        self.offers: set[int] = set()
         self.nothing = Heap(library, Sizes(0, 0, 0, 0), formed=False)
 
     def perform(self, command: bytes) -> str:
@@ -160,13 +158,6 @@ class Machine:
         ask(question, not question)
         negative, thousandths = out
         return f"figure {'-' * negative}{thousandths // 1000}.{thousandths % 1000:03}"
-
-    def offer(self, number: int) -> str:
-        """The library has no offers: these are judged here."""
-        ask(16, 0 < number <= MOST_OFFER)
-        ask(18, number in self.offers or len(self.offers) < MOST_OFFERS)
-        self.offers.add(number)
-        return "offer"
 
 
 def listing(library: Library, file: bytes) -> bytes:

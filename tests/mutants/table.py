@@ -32,9 +32,8 @@ FIRST = {
     "Calls": ["askedRows", "reportRows", "sizeRows"],
     "Figure": ["figureRows"],
     "Command": ["commandRows"],
-    "Run": ["commandRows", "pageRows"],
+    "Run": ["commandRows"],
     "Listing": ["commandRows"],
-    "Pages": ["pageRows"],
 }
 
 

@@ -7,11 +7,9 @@ MOST_I64 = 2**63 - 1
 LEAST_I64 = -(2**63)
 LONGEST_FILE = 65_536
 REGISTERS = 16
-# of an offer's number, and of the offers in a file
-MOST_OFFER, MOST_OFFERS = 999_999, 64
 
 # a command's byte, and how many bytes its operands have
-OPERANDS = {0x4E: 8, 0x41: 9, 0x56: 19, 0x4C: 10, 0x53: 10, 0x52: 0, 0x46: 1, 0x4F: 4}
+OPERANDS = {0x4E: 8, 0x41: 9, 0x56: 19, 0x4C: 10, 0x53: 10, 0x52: 0, 0x46: 1}
 
 INT, BOOL, FLOAT, CHAR, POINTER = 1, 2, 3, 4, 5
 NURSERY, ELDER = 0, 1
@@ -86,10 +84,6 @@ def report() -> bytes:
 
 def figure(of: int) -> bytes:
     return bytes((0x46, of))
-
-
-def offer(number: int) -> bytes:
-    return struct.pack("<BI", 0x4F, number)
 
 
 def split(file: bytes) -> list[bytes]:

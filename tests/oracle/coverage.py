@@ -1,20 +1,18 @@
 #!/usr/bin/env python3
-"""What random command files reach in the Rust, and what pages they print: coverage.py SEED COUNT
+"""What random command files reach in the Rust: coverage.py SEED COUNT
 
 Prints how often each wanted thing was seen, and fails if one was not seen at all.
 """
 import argparse
-import re
 import sys
 from collections import Counter
 from pathlib import Path
 
 import generate
 import oracle
-from commands import MOST_OFFERS, split
 
-LINES = ("new", "alloc", "set", "load", "store", "report", "figure", "offer", "no")
-QUESTIONS = (1, 3, 5, 6, 7, 8, 9, 10, 12, 13, 14, 15, 16, 18)
+LINES = ("new", "alloc", "set", "load", "store", "report", "figure", "no")
+QUESTIONS = (1, 3, 5, 6, 7, 8, 9, 10, 12, 13, 14, 15)
 KINDS = ("Uninitialized", "Int", "Bool", "Float", "Char", "Pointer")
 WANTED = (
     *(f"line: {line}" for line in LINES),
@@ -37,16 +35,6 @@ WANTED = (
     "file: longest",
     "file: too long",
     "file: a thousand commands or more",
-    "page: refused by 17",
-    "page: refused by 17, of a file with offers",
-    "page: empty, of a file with offers",
-    "page: of two offers or more",
-    "page: of as many offers as may be",
-    "page: an offer without a figure",
-    "page: a superseded figure",
-    "page: a refused figure between two others",
-    *(f"page: a figure, the last offer answered '{answer}'" for answer in ("offer", "no 16", "no 18")),
-    "page: figures before a malformed command",
 )
 # noted by the hooks inside the collector
 EVENTS = tuple((Path(__file__).parent / "events.txt").read_text().splitlines())
@@ -76,27 +64,6 @@ class Seen:
             _, kind, *fields = line.split(" ")
             self.note(f"line: {kind}")
             getattr(self, kind, lambda *_: None)(*fields)
-
-    def pages(self, written: bytes, listing: bytes, grower: bytes, supplier: bytes) -> None:
-        """Of a file with nothing behind the Rust's panic."""
-        text = listing.decode()
-        offers = {command for command, line in zip(split(written), text.splitlines()) if line.endswith(" offer")}
-        refused = grower.endswith(b" no 17\n")
-        self.note("page: refused by 17", refused)
-        self.note("page: refused by 17, of a file with offers", refused and bool(offers))
-        self.note("page: empty, of a file with offers", not grower and bool(offers))
-        if refused or not grower:
-            return
-        shown = grower.count(b"\n")
-        self.note("page: of two offers or more", shown > 1)
-        self.note("page: of as many offers as may be", shown == MOST_OFFERS)
-        self.note("page: an offer without a figure", shown < len(offers))
-        self.note("page: a superseded figure", shown < supplier.count(b"\n"))
-        self.note("page: a refused figure between two others", bool(re.search(" figure .* no 15\n.* figure ", text, re.S)))
-        self.note("page: figures before a malformed command", text.endswith(" no 12\n"))
-        parts = re.split(" (offer|no 16|no 18)\n", text)
-        for answer, behind in zip(parts[1::2], parts[2::2]):
-            self.note(f"page: a figure, the last offer answered '{answer}'", " figure " in behind)
 
     def no(self, question: str) -> None:
         self.note(f"refused by {question}")
@@ -136,9 +103,6 @@ def main() -> None:
     seen = Seen()
     for written, listing in zip(files, oracle.listings(files), strict=True):
         seen.file(written, listing)
-    cut = oracle.up_to_panics(files)
-    for texts in zip(cut, oracle.listings(cut), *(oracle.pages(cut, reader) for reader in oracle.READERS), strict=True):
-        seen.pages(*texts)
     seen.counts.update(oracle.events(files))
     for name, count in sorted(seen.counts.items()):
         print(f"{count:>9}  {name}")

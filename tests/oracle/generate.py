@@ -7,15 +7,13 @@ little-endian. The same seed gives the same files; a larger count only adds to t
 import argparse
 import struct
 import sys
-from itertools import count
 from pathlib import Path
 from random import Random
-from typing import Iterable, Iterator
+from typing import Iterator
 
 import commands
 import scenes
-from commands import ELDER, LONGEST_FILE, MOST_I64, MOST_OFFER, MOST_OFFERS, NURSERY, REGISTERS, UNINITIALIZED
-from commands import float_bits, floating, pointer
+from commands import ELDER, LONGEST_FILE, MOST_I64, NURSERY, UNINITIALIZED, pointer
 from script import Script
 
 
@@ -55,7 +53,6 @@ def malformed_end(s: Script) -> None:
             commands.load(0, 1, 0),
             commands.store(0, 1, 0),
             commands.figure(0),
-            commands.offer(7),
         )
     )
     high = s.rng.choice((16, 17, 255))
@@ -69,7 +66,7 @@ def malformed_end(s: Script) -> None:
             commands.figure(high),
         )
     )
-    unknown = bytes((s.rng.choice([code for code in range(256) if code not in commands.OPERANDS]),))
+    unknown = bytes((s.rng.choice([code for code in range(256) if code not in b"NAVLSRF"]),))
     s.raw(s.rng.choice((whole[: s.rng.randint(1, len(whole) - 1)], too_high, unknown)))
     if s.rng.random() < 0.5:
         s.raw(whole)
@@ -119,36 +116,6 @@ def long_lists(rng: Random) -> bytes:
     return bytes(s.written)
 
 
-def before_the_offers(s: Script) -> None:
-    """Refused offers and figures; sometimes a figure, which a page refuses."""
-    [register] = s.registers(1)
-    for _ in range(s.rng.randrange(4)):
-        s.rng.choice((lambda: s.offer(0), lambda: s.offer(MOST_OFFER + 1), lambda: s.figure(register)))()
-    if s.rng.random() < 0.15:
-        scenes.figures(s)
-    else:
-        s.offer(s.rng.randint(1, MOST_OFFER))
-
-
-def board(rng: Random) -> bytes:
-    """Figures of offers above all, so that pages have many lines; on a heap or without one."""
-    s = Script(rng)
-    others = list(scenes.FIGURES)
-    if has_heap := rng.random() < 0.5:
-        beginning(s)
-        others += [scenes.figure_from_the_heap, *rng.sample(scenes.SCENES, 2)]
-    before_the_offers(s)
-    for _ in range(rng.choice((1, 2, 4, 8))):
-        rng.choice((scenes.offers, rng.choice(others)))(s)
-    ending = rng.random()
-    if ending < 0.1:
-        malformed_end(s)
-    elif ending < 0.2 and has_heap:
-        panic_end(s)
-    scenes.offers(s)
-    return bytes(s.written)
-
-
 def odd(rng: Random) -> bytes:
     """Files that are no script."""
     any_bytes = rng.randbytes(rng.randint(1, 60))
@@ -157,7 +124,7 @@ def odd(rng: Random) -> bytes:
             rng.randbytes(1),
             any_bytes,
             commands.new(*sizes(rng)) + any_bytes,
-            bytes(rng.choice(b"NAVLSRFO\0\1\2\3") for _ in range(rng.randint(1, 200))),
+            bytes(rng.choice(b"NAVLSRF\0\1\2\3") for _ in range(rng.randint(1, 200))),
         )
     )
 
@@ -178,46 +145,11 @@ def file(seed: int, index: int) -> bytes:
         return scripted(rng, parts=300)
     if kind < 0.08:
         return long_lists(rng)
-    if kind < 0.2:
-        return board(rng)
     return scripted(rng, parts=rng.choice((1, 3, 6, 12)))
 
 
 def files(seed: int, count: int) -> Iterator[bytes]:
     return (file(seed, index) for index in range(count))
-
-
-# a Float in each register, the figure's limits among them
-FLOATS = (-999999.999, 999999.999, 0.0, *((-2.5) ** power for power in range(REGISTERS - 3)))
-READINGS = b"".join(commands.set_value(at, floating(float_bits(number))) for at, number in enumerate(FLOATS))
-
-
-def filled(start: bytes, units: Iterable[bytes], end: bytes) -> bytes:
-    """The longest file: as many of the units as fit, then reports."""
-    written = bytearray(start)
-    for unit in units:
-        if len(written) + len(unit) + len(end) > LONGEST_FILE:
-            break
-        written += unit
-    return bytes(written) + commands.report() * (LONGEST_FILE - len(written) - len(end)) + end
-
-
-def long_boards() -> Iterator[bytes]:
-    """One offer with as many figures as fit; one byte more; as many offers as may be, each with many figures; a figure behind as
-    many commands as fit, with an offer and without."""
-    one = filled(READINGS + commands.offer(MOST_OFFER), (commands.figure(at % REGISTERS) for at in count()), b"")
-    yield one
-    yield one + commands.report()
-    names = [commands.offer(number**3) for number in range(MOST_OFFERS, 0, -1)]
-    yield filled(READINGS, (names[at % MOST_OFFERS] + commands.figure(at % 13) for at in count()), b"")
-    for tagged in (commands.offer(7), b""):
-        yield filled(READINGS + tagged, (), commands.figure(0))
-
-
-def boards(seed: int, count: int) -> Iterator[bytes]:
-    """The long ones, and so many random ones."""
-    yield from long_boards()
-    yield from (board(Random(f"board {seed} {index}")) for index in range(count))
 
 
 def framed(written: bytes) -> bytes:

@@ -2,15 +2,13 @@
 """The model's definitions against the oracle: model_rows.py SEED COUNT [--model FOLDER]
 
 Random command files and the oracle's listings of them become facts about the model's `listing`, which `rt check` proves
-by computing. A third as many files that have offers become facts about both pages. Where a fact does not hold, its file is made as
-short as possible and shown with both texts.
+by computing. Where one does not hold, its file is made as short as possible and shown with both listings.
 """
 import argparse
 import sys
 import tempfile
 from itertools import count, islice
 from pathlib import Path
-from typing import Iterable
 
 import generate
 import oracle
@@ -19,16 +17,14 @@ from shorten import shortened
 from workbench import COMPARING, Workbench
 
 ROOT = oracle.HERE.parents[1]
-# the model's definitions of what is printed, each with the reader of the page
-DEFINITIONS = {"listing": "", "growerPage": "grower", "supplierPage": "supplier"}
 # beyond it a file's listing takes too many of the checker's steps
 LONGEST = 4096
-# so many bytes of a text are printed whole in a message of the checker
+# so many bytes of a listing are printed whole in a message of the checker
 SHOWN = 40
 DIGITS = 3
 
 HEADER = f"""\
--- Listings and pages of the oracle as facts about the model.
+-- Listings of the oracle as facts about the model.
 use mathlib.Core.Path.{{_≡_, refl}}
 use mathlib.Core.Bool.{{Bool, true, false, _&&_}}
 use mathlib.Core.List.{{List, [], _∷_}}
@@ -36,7 +32,6 @@ use Prim.Native.Nat.{{ℕ, zero, suc, _+_, _*_, _/_, _%_}}
 use lib.Dec.{{eqb}}
 use lib.ListN.{{take, drop}}
 use Rattle·model.specs.Listing.{{listing}}
-use Rattle·model.specs.Pages.{{growerPage, supplierPage}}
 
 -- so many bytes of a number, the lowest first
 bytes : ℕ → ℕ → List ℕ
@@ -56,48 +51,31 @@ def literal(text: bytes) -> str:
     return f"(bytes {len(text)} {hex(int.from_bytes(text, 'little'))})"
 
 
-def failing(bench: Workbench, definition: str, files: list[bytes]) -> list[int]:
-    """The numbers of the files of which the model prints something else than the oracle."""
-    return bench.failing([agrees(definition, *texts) for texts in oracle.judged(files, DEFINITIONS[definition])])
+def failing(bench: Workbench, files: list[bytes]) -> list[int]:
+    """The numbers of the files whose listing in the model is not the oracle's."""
+    return bench.failing([agrees(file, listing) for file, listing in zip(files, oracle.listings(files), strict=True)])
 
 
-def agrees(definition: str, file: bytes, rust: bytes) -> str:
-    """Up to where the Rust panicked, or to the end."""
-    ours = f"{definition} {literal(file)}"
-    if oracle.ends_early(rust):
-        ours = f"take {len(rust)} ({ours})"
-    return f"same ({ours}) {literal(rust)} ≡ true"
-
-
-def model_text(bench: Workbench, definition: str, file: bytes) -> str:
+def model_listing(bench: Workbench, file: bytes) -> str:
     """As far as the checker shows it; `…` where it says nothing."""
     places = range(0, LONGEST, SHOWN)
-    parts = [f"digits (take {SHOWN} (drop {at} ({definition} {literal(file)})))" for at in places]
+    parts = [f"digits (take {SHOWN} (drop {at} (listing {literal(file)})))" for at in places]
     return "".join("…" if part is None else "".join(map(chr, part)) for part in bench.computed(parts, DIGITS))
 
 
-def show(bench: Workbench, definition: str, file: bytes) -> None:
-    [(file, rust)] = oracle.judged([file], DEFINITIONS[definition])
+def agrees(file: bytes, listing: bytes) -> str:
+    """Up to where the Rust panicked, or to the end."""
+    ours = f"listing {literal(file)}"
+    if oracle.ends_early(listing):
+        ours = f"take {len(listing)} ({ours})"
+    return f"same ({ours}) {literal(listing)} ≡ true"
+
+
+def show(bench: Workbench, file: bytes) -> None:
     print("commands:")
     for part in split(file):
         print(f"  {part.hex()}")
-    print(f"the oracle prints:\n{rust.decode()}the model's {definition} is:\n{model_text(bench, definition, file)}")
-
-
-def hold(bench: Workbench, definition: str, files: list[bytes]) -> None:
-    """At a difference all ends."""
-    if different := failing(bench, definition, files):
-        print(f"model: {definition} of {len(different)} of {len(files)} files differs from the oracle's; one of them, shortened:")
-        shortest = split(min((files[index] for index in different), key=len))
-        parts = shortened(shortest, lambda some: failing(bench, definition, list(map(b"".join, some))))
-        show(bench, definition, b"".join(parts))
-        sys.exit(1)
-    lines = sum(text.count(b"\n") for _, text in oracle.judged(files, DEFINITIONS[definition]))
-    print(f"model: {definition}: {len(files)} files, {lines} lines agree")
-
-
-def short(files: Iterable[bytes], count: int) -> list[bytes]:
-    return list(islice((file for file in files if len(file) <= LONGEST), count))
+    print(f"the oracle's listing:\n{oracle.listings([file])[0].decode()}the model's listing:\n{model_listing(bench, file)}")
 
 
 def main() -> None:
@@ -106,12 +84,17 @@ def main() -> None:
     parser.add_argument("count", type=int)
     parser.add_argument("--model", type=Path, metavar="FOLDER", default=ROOT / "crates" / "model")
     options = parser.parse_args()
-    files = short((generate.file(options.seed, index) for index in count()), options.count)
-    boards = short(generate.boards(options.seed, 2 * options.count), options.count // 3)
+    endless = (generate.file(options.seed, index) for index in count())
+    files = list(islice((file for file in endless if len(file) <= LONGEST), options.count))
     with tempfile.TemporaryDirectory() as folder:
         bench = Workbench(Path(folder), options.model, HEADER, OPENED)
-        for definition, reader in DEFINITIONS.items():
-            hold(bench, definition, boards if reader else files)
+        if different := failing(bench, files):
+            print(f"model: {len(different)} of {len(files)} files differ from the oracle; one of them, shortened:")
+            shortest = min((files[index] for index in different), key=len)
+            show(bench, b"".join(shortened(split(shortest), lambda some: failing(bench, list(map(b"".join, some))))))
+            sys.exit(1)
+    lines = sum(listing.count(b"\n") for listing in oracle.listings(files))
+    print(f"model: {len(files)} files, {lines} lines agree")
 
 
 if __name__ == "__main__":

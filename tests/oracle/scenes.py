@@ -1,7 +1,7 @@
-"""Purposeful parts of command files. Each takes a script that has a heap and goes on with it; those of FIGURES need none."""
-from commands import ELDER, LEAST_I64, MOST_I64, MOST_OFFER, MOST_OFFERS, NURSERY, REGISTERS, WORD, floating, integer, pointer
+"""Purposeful parts of command files. Each takes a script that has a heap and goes on with it."""
+from commands import ELDER, LEAST_I64, MOST_I64, NURSERY, REGISTERS, WORD, floating, integer, pointer
 from script import Script
-from values import VALUES, figure_bits, figured_bits
+from values import VALUES, figure_bits
 
 
 def linked_list(s: Script) -> None:
@@ -274,52 +274,6 @@ def figures(s: Script) -> None:
     s.figure(other)
 
 
-def some_offer(s: Script) -> int:
-    """Known, new, at the limits or beyond them."""
-    known = s.rng.choice(s.offers) if s.offers else 7
-    small, any_number = s.rng.randint(1, 12), s.rng.randint(1, MOST_OFFER)
-    edge = s.rng.choice((0, 1, MOST_OFFER, MOST_OFFER + 1, 2**24 + 7, 2**31, 2**32 - 1))
-    return s.rng.choice((known, known, known, small, any_number, edge))
-
-
-def offers(s: Script) -> None:
-    """Offers, known ones again and refused ones among them, each with some figures or none."""
-    register, other = s.registers(2)
-    for _ in range(s.rng.randint(1, 8)):
-        s.offer(some_offer(s))
-        for _ in range(s.rng.choice((0, 1, 1, 2, 3))):
-            s.set(register, floating(s.rng.choice((figure_bits(s.rng), figured_bits(s.rng)))))
-            s.figure(s.rng.choice((register, register, register, other)))
-
-
-def all_offers(s: Script) -> None:
-    """As many as a file may name, half of them or all with a figure; one more, and a known one again."""
-    [register] = s.registers(1)
-    share = s.rng.choice((0.5, 1))
-    while len(s.offers) < MOST_OFFERS:
-        s.offer(s.rng.choice((len(s.offers) + 1, s.rng.randint(1, MOST_OFFER))))
-        if s.rng.random() < share:
-            s.set(register, floating(figured_bits(s.rng)))
-            s.figure(register)
-    for number in (max(s.offers) % MOST_OFFER + 1, s.rng.randint(1, MOST_OFFER), s.rng.choice(s.offers)):
-        s.offer(number)
-        s.figure(register)
-
-
-def figure_from_the_heap(s: Script) -> None:
-    """A Float on the heap, through a collection and back, as an offer's figure."""
-    array, register = s.registers(2)
-    if s.array(array, s.rng.randint(1, 3)):
-        return
-    s.set(register, floating(figure_bits(s.rng)))
-    s.store(register, array, 0)
-    s.forget(register)
-    s.offer(some_offer(s))
-    s.collect(array)
-    s.load(register, array, 0)
-    s.figure(register)
-
-
 def refused_commands(s: Script) -> None:
     """Commands that are whole and get a no."""
     register, other = s.registers(2)
@@ -333,7 +287,6 @@ def refused_commands(s: Script) -> None:
                 lambda: s.new(4, 8, 8, 16),
                 lambda: s.new(s.rng.randrange(2**16), 8, 129, 16),
                 lambda: s.figure(register),
-                lambda: s.offer(s.rng.choice((0, MOST_OFFER + 1))),
                 lambda: s.set(other, s.rng.choice(VALUES)),
             )
         )()
@@ -383,10 +336,7 @@ SCENES = (
     wild_access,
     values,
     figures,
-    offers,
-    figure_from_the_heap,
     refused_commands,
     report,
     noise,
 )
-FIGURES = (figures, offers, all_offers, refused_commands)

@@ -59,19 +59,11 @@ class Script:
     def figure(self, of: int) -> None:
         self.raw(commands.figure(of))
 
-    def offer(self, number: int) -> int:
-        return self.emit(commands.offer(number), lambda: self.machine.offer(number))
-
     # What is there to aim at.
 
     @property
     def heap(self) -> Heap:
         return self.machine.heap
-
-    @property
-    def offers(self) -> list[int]:
-        """Those named so far."""
-        return self.machine.offers
 
     def held(self, register: int) -> Value:
         return self.machine.registers[register]

@@ -5,8 +5,7 @@ Nothing is judged by it: a wrong guess here costs coverage, never a comparison.
 from collections import Counter
 from copy import copy
 
-from commands import ELDER, LEAST_I64, MOST_I64, MOST_OFFER, MOST_OFFERS, NURSERY, REGISTERS, UNINITIALIZED, WORD, Value
-from commands import pointer
+from commands import ELDER, LEAST_I64, MOST_I64, NURSERY, REGISTERS, UNINITIALIZED, WORD, Value, pointer
 
 
 class Refused(Exception):
@@ -158,12 +157,11 @@ class Heap:
 
 
 class Machine:
-    """The registers, the offers named and, after `new`, the heap. A refused command changes nothing."""
+    """The registers and, after `new`, the heap. A refused command changes nothing."""
 
     def __init__(self) -> None:
         self.registers = [UNINITIALIZED] * REGISTERS
         self.heap: Heap | None = None
-        self.offers: list[int] = []
 
     def new(self, nursery: int, threshold: int, slots: int, cells: int) -> None:
         if self.heap:
@@ -205,11 +203,3 @@ class Machine:
 
     def report(self) -> None:
         self.need_heap().report()
-
-    def offer(self, number: int) -> None:
-        if not 0 < number <= MOST_OFFER:
-            raise Refused(16)
-        if number not in self.offers:
-            if len(self.offers) == MOST_OFFERS:
-                raise Refused(18)
-            self.offers.append(number)

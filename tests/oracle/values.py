@@ -35,8 +35,3 @@ def figure_bits(rng: Random) -> int:
     )
     neighbour = max(0, bits + rng.choice((0, 0, 0, 1, -1)))
     return (neighbour ^ rng.choice((0, 0, 2**63))) % WORD
-
-
-def figured_bits(rng: Random) -> int:
-    """Bits of a Float that has a figure."""
-    return float_bits(rng.uniform(-999_999, 999_999) / 10 ** rng.randrange(6))

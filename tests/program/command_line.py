@@ -12,12 +12,10 @@ from typing import Iterator, NamedTuple
 
 from program import ROOT, built
 
-from cases import CASES, PAGES, numbered
-from oracle import READERS
+from cases import CASES, numbered
 
 FILE, LINES = CASES["C1"]
 LISTING = numbered(LINES).encode()
-OFFERS, _, *SHOWN = PAGES["three offers, one of them with two figures"]
 # seconds; nothing is proved here
 LONGEST = 30
 OUTPUT_CLOSED, INPUT_CLOSED = "exec >&-;", "exec <&-;"
@@ -76,16 +74,6 @@ def inputs(heap: Path, folder: Path) -> Iterator[str]:
     yield runs("a shell that follows POSIX", given=FILE, env=os.environ | {"POSIXLY_CORRECT": "1"})
     yield runs("a file that is too long", stored("long.hex", b"52" * 70_000), out=b"1 no 12\n")
     yield runs("hexadecimal digits in a file that is not .hex", stored("c1.txt", FILE.hex().encode()), out=b"1 no 12\n")
-    for reader, shown in zip(READERS, map(str.encode, SHOWN)):
-        yield runs(f"a page for a {reader}", "page", reader, stored("offers", OFFERS), out=shown)
-        yield runs("of standard input", "page", reader, given=OFFERS, out=shown)
-        yield runs("by its name", "page", reader, "-", given=OFFERS, out=shown)
-        yield runs("of hexadecimal text", "page", reader, stored("offers.hex", OFFERS.hex(" ").encode()), out=shown)
-        yield runs("of a name that begins with a dash", "page", reader, "--", "-c1", cwd=folder, out=b"")
-        yield runs("of a file called as the reader is", "page", reader, reader, cwd=Path(stored(reader, OFFERS)).parent, out=shown)
-        yield runs("that is refused", "page", reader, given=OFFERS[5:], out=b"2 no 17\n")
-        yield runs("of a file that is too long", "page", reader, str(folder / "long.hex"), out=b"")
-    yield runs("a file called page", "./page", cwd=Path(stored("page", FILE)).parent)
     (folder / "link").symlink_to(heap)
     wants("by a link", ran(folder / "link", given=FILE), 0, LISTING)
     yield "by a link"
@@ -110,13 +98,6 @@ def mistakes(heap: Path, folder: Path) -> Iterator[str]:
     yield refuses("an unknown option", "unknown option --page", "--page")
     yield refuses("a short one", "unknown option -x", "-x", str(ROOT / "examples" / "c1.hex"))
     yield refuses("two files", "one file at a time", "a", "b")
-    example = str(ROOT / "examples" / "offers.hex")
-    yield refuses("a page for nobody", "grower|supplier", "page")
-    for word in ("", "Grower", "growe", "growers", "grower ", "grower|supplier", "|", "-", "*", example):
-        yield refuses(f"a page for '{word}'", f"grower|supplier, and not '{word}'", "page", word, example)
-    yield refuses("a page of two files", "one file at a time", "page", "grower", example, example)
-    yield refuses("a page of a missing file", "missing: No such file", "page", "supplier", "missing")
-    yield refuses("a page with an option", "unknown option --all", "page", "--all", "grower", example)
     yield refuses("standard input closed", "standard input is closed", before=INPUT_CLOSED)
     yield refuses("standard output closed", "standard output is closed", before=OUTPUT_CLOSED)
     yield refuses("help without an output", "standard output cannot be written", "--help", before=OUTPUT_CLOSED)
@@ -138,11 +119,6 @@ def failures(heap: Path) -> Iterator[str]:
     full = ran(heap, given=FILE, before="exec >/dev/full;")
     wants("no room for the output", full, 1, said="standard output: ")
     yield "no room for the output"
-    wants("a folder as input of a page", ran(heap, "page", "grower", before="exec <.;"), 1, said="standard input: ")
-    yield "a folder as input of a page"
-    full = ran(heap, "page", "supplier", given=OFFERS, before="exec >/dev/full;")
-    wants("no room for a page", full, 1, said="standard output: ")
-    yield "no room for a page"
 
 
 # as rt does, it leaves a program that would be the same
@@ -158,28 +134,28 @@ cmp -s made "target/bin/$2" || cp made "target/bin/$2"
 [ ! -e wrong ] || exit 1
 [ ! -e killed ] || kill -9 $PPID
 """
-# a further line of the table of subcommands, below the first
+# a second line of the table of subcommands, below the first
 FIRST = re.compile("^ *\"\\$1\" '' heap .*\n", re.M)
-FURTHER = "  \"$1\" trial trials 'old|new WHEN' 'a trial'\n"
+SECOND = "  \"$1\" page pages 'WHO WHEN' 'a page'\n"
 
 
 class Repository:
-    """The scripts over three crates, whose programs print their words and what they read, and an rt that notes its calls. All but the
-    last are those of subcommands."""
+    """The scripts over two crates, whose programs print their words and what they read, and an rt that notes its calls. The second
+    is that of a subcommand."""
 
     def __init__(self, folder: Path):
         self.folder, self.heap = folder, folder / "heap"
         for script in ("heap", "build"):
             shutil.copy(ROOT / script, folder)
-        table, count = FIRST.subn(lambda line: line[0] + FURTHER, self.heap.read_text())
+        table, count = FIRST.subn(lambda line: line[0] + SECOND, self.heap.read_text())
         if count != 1:
             raise Wrong("the table of subcommands has no first line")
         self.heap.write_text(table)
-        for crate in ("page", "trials", "heap"):
+        for crate in ("pages", "heap"):
             self.source = folder / "crates" / crate / "src" / "main.rt"
             self.source.parent.mkdir(parents=True)
             self.source.write_text("")
-        (folder / "crates.txt").write_text("heap:\npage:\ntrials:\n")
+        (folder / "crates.txt").write_text("heap:\npages:\n")
         (folder / "tools").mkdir()
         self.rt = folder / "tools" / "rt"
         self.rt.write_text(RT)
@@ -260,26 +236,20 @@ def building(folder: Path) -> Iterator[str]:
 
 def subcommands(folder: Path) -> Iterator[str]:
     made = Repository(folder)
-    at_work = "stand-in at work"
     (folder / "a.hex").write_text("41")
-    (folder / "trial").write_bytes(b"a file\n")
-    yield made.wants("a wrong word builds nothing", 0, "page", "growe", status=2, out=b"", said="grower|supplier, and not 'growe'")
-    made.ran("trial", "old", "now")
-    yield made.wants("a subcommand of standard input", 1, "trial", "old", "now", out=b"trials old now\ngiven\n")
-    yield made.wants("of a file", 1, "trial", "new", "old|new", str(folder / "a.hex"), out=b"trials new old|new\nA")
-    yield made.wants("with an empty word", 1, "trial", "new", "", out=b"trials new \ngiven\n")
-    yield made.wants("with a wrong word", 1, "trial", "now", "now", status=2, out=b"", said="old|new WHEN, and not 'now'")
-    yield made.wants("with a word too few", 1, "trial", "old", status=2, out=b"", said="old|new WHEN")
-    yield made.wants("with a file too many", 1, "trial", "old", "now", "a", "b", status=2, out=b"", said="one file at a time")
-    yield made.wants("a file of its name", 2, str(folder / "trial"), out=b"a file\n", said=at_work)
-    yield made.wants("another subcommand builds its own program", 3, "page", "grower", out=b"page grower\ngiven\n", said=at_work)
-    for line in (b"./heap [FILE]", b"./heap trial old|new WHEN [FILE]", b"./heap page grower|supplier [FILE]"):
-        if line not in made.ran("--help").out:
-            raise Wrong(f"the help lacks {line.decode()}")
+    (folder / "page").write_bytes(b"a file\n")
+    made.ran("page", "me", "now")
+    yield made.wants("a subcommand of standard input", 1, "page", "me", "now", out=b"pages me now\ngiven\n")
+    yield made.wants("of a file", 1, "page", "me", "now", str(folder / "a.hex"), out=b"pages me now\nA")
+    yield made.wants("with a word too few", 1, "page", "me", status=2, out=b"", said="WHO WHEN")
+    yield made.wants("with a file too many", 1, "page", "me", "now", "a", "b", status=2, out=b"", said="one file at a time")
+    yield made.wants("a file of its name", 2, str(folder / "page"), out=b"a file\n", said="stand-in at work")
+    if b"./heap page WHO WHEN [FILE]" not in made.ran("--help").out:
+        raise Wrong("the help does not have all subcommands")
 
 
 def main() -> None:
-    built(), built("page")
+    built()
     heap, names = ROOT / "heap", []
     with tempfile.TemporaryDirectory() as folder:
         files, one, other = (Path(folder) / name for name in ("files", "one", "other"))

@@ -1,4 +1,4 @@
-"""The kinds of answers in a listing and of pages, and those that the stored ones must have.
+"""The kinds of answers in a listing, and those that the stored listings must have.
 
 A kind is a command with the question that refused it, or with what tells its answers apart. For an alloc: the heap, the nursery's
 collections, the elder's (2 for more). For a load and a store: the heap of the pointer, then kind and heap of the value.
@@ -7,22 +7,18 @@ from typing import Iterator
 
 from commands import REGISTERS, split
 
-NAMES = {0x4E: "new", 0x41: "alloc", 0x56: "set", 0x4C: "load", 0x53: "store", 0x52: "report", 0x46: "figure", 0x4F: "offer"}
+NAMES = {0x4E: "new", 0x41: "alloc", 0x56: "set", 0x4C: "load", 0x53: "store", 0x52: "report", 0x46: "figure"}
 ALLOCS = ("0 0 0", "0 1 0", "0 1 1", "0 1 2", "1 1 0", "1 1 1", "1 1 2", "no 5", "no 6", "no 7", "no 14")
 VALUES = ("0 0", "1 0", "2 0", "3 0", "4 0", "5 0", "5 1")
 ACCESSES = ("load", "store")
 
 WANTED = {
     "new", "new no 1", "new no 14", "set", "set no 3", "report", "report no 14", "figure", "figure no 15", "no 12",
-    "offer", "offer no 16", "offer no 18",
     *(f"alloc {answer}" for answer in ALLOCS),
     *(f"{name} {answer}" for name in ACCESSES for answer in ("no 13", "no 14")),
     *(f"{name} {heap} {answer}" for name in ACCESSES for heap in (0, 1) for answer in (*VALUES, "no 8", "no 9")),
     # the elder's counts are never too low
     "store 0 no 10",
-}
-WANTED_PAGES = {
-    f"page {reader} {kind}" for reader in ("grower", "supplier") for kind in ("no 17", "of no line", "of one line", "of several lines")
 }
 
 
@@ -62,9 +58,3 @@ def refusal(command: bytes, question: str, held: list[str]) -> str:
 
 def heap_of(value: str) -> str:
     return value.split()[1]
-
-
-def page_kind(reader: str, page: bytes) -> str:
-    if page.endswith(b" no 17\n"):
-        return f"page {reader} no 17"
-    return f"page {reader} " + ("of no line", "of one line", "of several lines")[min(page.count(b"\n"), 2)]

@@ -1,29 +1,27 @@
 #!/usr/bin/env python3
-"""Writes listings.txt: command files with the listings and pages of the oracle.
+"""Writes listings.txt: command files with the listings of the oracle.
 
-They are the cases of document 01 and of R-2, short random files of one seed, those with offers among them, runs of loads and stores,
-and of the random files of another seed the shortest that together have each wanted kind of answer twice. Pages are those of R-2's
-cases and of the files with offers. A row is `>` and the file in hexadecimal (`-` if it is empty), then `early` if the Rust panicked
-at the last line, or for a page its reader, and the lines. tests/program/vectors.py replays them.
+They are document 01's cases, short random files of one seed, runs of loads and stores, and of the random files of another seed the
+shortest that together have each wanted kind of answer twice. A row is `>` and the file in hexadecimal (`-` if it is empty), then
+`early` if the Rust panicked at the last line, and its lines. tests/program/vectors.py replays them.
 """
 import sys
 from collections import Counter
 from itertools import islice
 from pathlib import Path
 from random import Random
-from typing import Iterable, Iterator
+from typing import Iterator
 
 HERE = Path(__file__).resolve().parent
 sys.path.insert(0, str(HERE.parent / "oracle"))
 
 import generate
 import oracle
-from cases import CASES, PAGES
+from cases import CASES
 from commands import BOOL, CHAR, UNINITIALIZED, Value, alloc, floating, integer, load, new, pointer, set_value, store
 from kinds import WANTED, kinds
 
-# random files, and so many with offers
-SEED, COUNT, BOARDS, LONGEST = 77, 60, 20, 600
+SEED, COUNT, LONGEST = 77, 60, 600
 # runs of loads and stores
 RUNS, CALLS = 24, 16
 # an array of two cells in the elder, and one in the nursery over the stale cells of the first, one of which is (1, 5, 0)
@@ -78,27 +76,15 @@ def chosen() -> Iterator[bytes]:
             yield file
 
 
-def short(files: Iterable[bytes], count: int) -> list[bytes]:
-    return list(islice((file for file in files if len(file) <= LONGEST), count))
-
-
-def row(file: bytes, mark: str, text: bytes) -> str:
-    return f"\n>{file.hex() or '-'}{mark}\n{text.decode()}"
-
-
 def main() -> None:
+    short = (file for file in generate.files(SEED, 20 * COUNT) if len(file) <= LONGEST)
     rng = Random(1)
-    runs = [b"".join(accesses(rng)) for _ in range(RUNS)]
-    boards = short(generate.boards(SEED, 20 * BOARDS), BOARDS)
-    cases = short((file for file, _ in CASES.values()), len(CASES))
-    with_pages = short((file for file, *_ in PAGES.values()), len(PAGES)) + boards
-    files = [*cases, *short(generate.files(SEED, 20 * COUNT), COUNT), *boards, *runs, *chosen()]
+    runs = (b"".join(accesses(rng)) for _ in range(RUNS))
+    files = [*(file for file, _ in CASES.values()), *islice(short, COUNT), *runs, *chosen()]
     with open(HERE / "listings.txt", "w") as out:
         out.write("# made by listings.py")
         for file, lines in zip(files, oracle.listings(files), strict=True):
-            out.write(row(file, " early" if oracle.ends_early(lines) else "", lines))
-        for reader in oracle.READERS:
-            out.writelines(row(file, f" {reader}", page) for file, page in oracle.judged(with_pages, reader))
+            out.write(f"\n>{file.hex() or '-'}{' early' if oracle.ends_early(lines) else ''}\n{lines.decode()}")
 
 
 if __name__ == "__main__":

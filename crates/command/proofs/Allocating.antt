@@ -34,7 +34,6 @@ use Rattle.registers.specs.declared.Registers.{Registers}
 use Rattle.access.specs.Access.{pointer_of}
 use Rattle.registers.specs.Cells.{cells_of_registers, register_of, GoodValue, Good}
 use Rattle.registers.proofs.Values.{set-cells, set-good, values-valid, good-whole}
-use Rattle.offers.specs.declared.Offers.{Offers}
 use Rattle.command.specs.declared.answers.Answer.{Answer}
 use Rattle.command.specs.declared.answers.Answer.TheVariants as answer
 use Rattle.command.specs.State.{state_of, Held}
@@ -74,9 +73,9 @@ module _ (w roots v roots' : List ℕ) where
       let same : p ≡ q = cc in
       (ap refuse same, sym (ap (λ (o : Outcome). o.image) e))
 
-pub alloc-heapless : {w : List ℕ} {r r' : Registers} {offers : Offers} {a : Answer} (k amount : ℕ) → Held w → Good r → length w ≡ 0 → (a ≡ answer.Refused 14) × (r' ≡ r) → Acts (alloc k amount) w r offers a w r'
+pub alloc-heapless : {w : List ℕ} {r r' : Registers} {a : Answer} (k amount : ℕ) → Held w → Good r → length w ≡ 0 → (a ≡ answer.Refused 14) × (r' ≡ r) → Acts (alloc k amount) w r a w r'
 unfolding step
-alloc-heapless {w} {r} {offers = offers} k amount h g e = refuses h g (rw (no-heap w r offers e))
+alloc-heapless {w} {r} k amount h g e = refuses h g (rw (no-heap w r e))
 
 -- what alloc is called with: an image that is held, the registers' words, n words of scratch
 pub record Lent (w : List ℕ) (r : Registers) (roots : List ℕ) (n : ℕ) : Type 0 where
@@ -99,22 +98,22 @@ module _ {w : List ℕ} {r : Registers} {roots : List ℕ} {n : ℕ} (l : Lent w
       let fits : scratch_length (decode w).size 16 ≤ n = omega (arith, l.room, limited-scratch (decode w).size (l.held.bounded l.there)) in
       rw (cells, le-leb (length roots) (3 * 4096) (omega (arith, l.long)), sixteen, le-leb (scratch_length (decode w).size 16) n fits, l.words, words-in (cells_of_registers r) valid_cells)
 
-  step_is : (offers : Offers) (k : ℕ) → step (alloc k amount) (state_of w r offers) ≡ (alloc_in (decode w) (cells_of_registers r) amount >>= λ x. ok (alloc_line x.ptr (four_counts x), holding (some x.heap) (put x.roots k (ref x.ptr)) (state_of w r offers)))
+  step_is : (k : ℕ) → step (alloc k amount) (state_of w r) ≡ (alloc_in (decode w) (cells_of_registers r) amount >>= λ x. ok (alloc_line x.ptr (four_counts x), holding (some x.heap) (put x.roots k (ref x.ptr)) (state_of w r)))
   unfolding step state_of
-  step_is offers k = rw (the_heap_lem w r offers l.there)
+  step_is k = rw (the_heap_lem w r l.there)
 
-  same-acts : (offers : Offers) {x : ModelAllocation} {a : Allocation} {v roots' : List ℕ} → alloc_in (decode w) (cells_of_registers r) amount ≡ ok x → Told ⊥ (decode w) (cells_of_registers r) x → Same x a v roots'
-      → (moved s : Registers) (k : ℕ) → cells_of_registers moved ≡ cells_in roots' → cells_of_registers s ≡ put (cells_of_registers moved) k (ref (pointer_of a.pointer)) → Good s → Acts (alloc k amount) w r offers (answer.Alloc a) v s
-  same-acts offers {x} gave told same moved s k from now good =
+  same-acts : {x : ModelAllocation} {a : Allocation} {v roots' : List ℕ} → alloc_in (decode w) (cells_of_registers r) amount ≡ ok x → Told ⊥ (decode w) (cells_of_registers r) x → Same x a v roots'
+      → (moved s : Registers) (k : ℕ) → cells_of_registers moved ≡ cells_in roots' → cells_of_registers s ≡ put (cells_of_registers moved) k (ref (pointer_of a.pointer)) → Good s → Acts (alloc k amount) w r (answer.Alloc a) v s
+  same-acts {x} gave told same moved s k from now good =
       let fit = good-heap-fit told.good in
       let back = words-in x.roots (valid-all x.roots told.roots-valid) in
-      answers (rw (step_is offers k, gave, same.counts, same.image, heap-encoded fit, now, from, same.roots-are, back, same.pointer)) tt (rw same.image (held_after fit l.held l.there told.same_size)) good
+      answers (rw (step_is k, gave, same.counts, same.image, heap-encoded fit, now, from, same.roots-are, back, same.pointer)) tt (rw same.image (held_after fit l.held l.there told.same_size)) good
 
   module _ (o : Allocated) (v roots' : List ℕ) (e : allocated w roots (alloc_on (decode w) roots n amount) ≡ alloc_outcome o v roots') where
-    pub alloc-refused : (offers : Offers) {q : ℕ} {b : Answer} {r' : Registers} (k : ℕ) → o ≡ Refused q → (b ≡ answer.Refused q) × (r' ≡ r) → Acts (alloc k amount) w r offers b v r'
-    alloc-refused offers k f s =
+    pub alloc-refused : {q : ℕ} {b : Answer} {r' : Registers} (k : ℕ) → o ≡ Refused q → (b ≡ answer.Refused q) × (r' ≡ r) → Acts (alloc k amount) w r b v r'
+    alloc-refused k f s =
         let (no_answer, same) = same-refusal w roots v roots' _ (ap (allocated w roots) (sym all_asked) ∙ e ∙ ap (λ (x : Allocated). alloc_outcome x v roots') f) in
-        rw same (refuses l.held l.good (rw (step_is offers k, no_answer)) s)
+        rw same (refuses l.held l.good (rw (step_is k, no_answer)) s)
 
     module _ {a : Allocation} (f : o ≡ At a) where
       answered : (x : ModelAllocation) × (alloc_in (decode w) (cells_of_registers r) amount ≡ ok x) × Same x a v roots'
@@ -130,6 +129,6 @@ module _ {w : List ℕ} {r : Registers} {roots : List ℕ} {n : ℕ} (l : Lent w
       unfolding valid value_cell
       pointer-good s = record { cell = rw (ap (λ (p : Ptr). p.heap) answered.2.pointer) (holds_at (new-valid (decode w) (cells_of_registers r) amount) answered.1); whole = tt; ranged = s }
 
-      pub alloc-acts : (offers : Offers) (moved s : Registers) (k : ℕ) → cells_of_registers moved ≡ cells_in roots' → Good moved → SFits w64 a.pointer.offset → s.cells ≡ put moved.cells k (register_of (Pointer a.pointer)) → Acts (alloc k amount) w r offers (answer.Alloc a) v s
+      pub alloc-acts : (moved s : Registers) (k : ℕ) → cells_of_registers moved ≡ cells_in roots' → Good moved → SFits w64 a.pointer.offset → s.cells ≡ put moved.cells k (register_of (Pointer a.pointer)) → Acts (alloc k amount) w r (answer.Alloc a) v s
       unfolding value_cell
-      alloc-acts offers moved s k from good fits now = same-acts offers answered.1 told answered.2 moved s k from (set-cells moved s k (Pointer a.pointer) now) (set-good moved s k (Pointer a.pointer) now good (pointer-good fits))
+      alloc-acts moved s k from good fits now = same-acts answered.1 told answered.2 moved s k from (set-cells moved s k (Pointer a.pointer) now) (set-good moved s k (Pointer a.pointer) now good (pointer-good fits))

@@ -15,7 +15,6 @@ use Rattle.theorems.specs.Fit.{Fit}
 use Rattle.theorems.proofs.Image.{decode-encode, encode-sized, encode-formed, image-of}
 use Rattle.registers.specs.declared.Registers.{Registers}
 use Rattle.registers.specs.Cells.{cells_of_registers, Good}
-use Rattle.offers.specs.declared.Offers.{Offers}
 use Rattle.command.specs.declared.answers.Answer.{Answer}
 use Rattle.command.specs.declared.answers.Answer.TheVariants.{Refused}
 use Rattle.command.specs.Answers.{answer_line, GoodAnswer}
@@ -24,28 +23,28 @@ use Rattle.command.specs.Steps.{Acts}
 
 -- 14
 
-pub no-heap : (w : List ℕ) (r : Registers) (offers : Offers) → length w ≡ 0 → the_heap (state_of w r offers) ≡ refuse 14
+pub no-heap : (w : List ℕ) (r : Registers) → length w ≡ 0 → the_heap (state_of w r) ≡ refuse 14
 unfolding the_heap state_of heap_in
-no-heap [] r offers e = refl
-no-heap (x ∷ w) r offers e = absurd (omega arith)
+no-heap [] r e = refl
+no-heap (x ∷ w) r e = absurd (omega arith)
 
-pub the_heap_lem : (w : List ℕ) (r : Registers) (offers : Offers) → 0 < length w → the_heap (state_of w r offers) ≡ ok (decode w)
+pub the_heap_lem : (w : List ℕ) (r : Registers) → 0 < length w → the_heap (state_of w r) ≡ ok (decode w)
 unfolding the_heap state_of heap_in
-the_heap_lem [] r offers h = absurd (omega arith)
-the_heap_lem (x ∷ w) r offers h = refl
+the_heap_lem [] r h = absurd (omega arith)
+the_heap_lem (x ∷ w) r h = refl
 
-pub heap-there : (w : List ℕ) (r : Registers) (offers : Offers) → 0 < length w → no_heap (state_of w r offers) ≡ refuse 14
+pub heap-there : (w : List ℕ) (r : Registers) → 0 < length w → no_heap (state_of w r) ≡ refuse 14
 unfolding no_heap state_of heap_in
-heap-there [] r offers h = absurd (omega arith)
-heap-there (x ∷ w) r offers h = refl
+heap-there [] r h = absurd (omega arith)
+heap-there (x ∷ w) r h = refl
 
 -- a refusal leaves the state
-pub refuses : {c : Command} {w : List ℕ} {r r' : Registers} {offers : Offers} {a : Answer} {q : ℕ} → Held w → Good r → step c (state_of w r offers) ≡ refuse q → (a ≡ Refused q) × (r' ≡ r) → Acts c w r offers a w r'
+pub refuses : {c : Command} {w : List ℕ} {r r' : Registers} {a : Answer} {q : ℕ} → Held w → Good r → step c (state_of w r) ≡ refuse q → (a ≡ Refused q) × (r' ≡ r) → Acts c w r a w r'
 unfolding stepped
 refuses h g e (is, same) = rw (is, same) (record { stepping = rw e; whole = tt; held = h; good = g })
 
 -- the model's state made anew is that of the words and registers that are left
-pub answers : {c : Command} {w : List ℕ} {r : Registers} {offers : Offers} {a : Answer} {v : List ℕ} {r' : Registers} → step c (state_of w r offers) ≡ ok (answer_line a, holding (heap_in v) (cells_of_registers r') (state_of w r offers)) → GoodAnswer a → Held v → Good r' → Acts c w r offers a v r'
+pub answers : {c : Command} {w : List ℕ} {r : Registers} {a : Answer} {v : List ℕ} {r' : Registers} → step c (state_of w r) ≡ ok (answer_line a, holding (heap_in v) (cells_of_registers r') (state_of w r)) → GoodAnswer a → Held v → Good r' → Acts c w r a v r'
 unfolding stepped holding state_of
 answers e u h g = record { stepping = rw e; whole = u; held = h; good = g }
 

@@ -23,8 +23,6 @@ use Rattle.image.specs.declared.Made.{Made}
 use Rattle.image.specs.declared.Made.TheVariants as made
 use Rattle.registers.specs.declared.Registers.{Registers}
 use Rattle.registers.specs.Cells.{Good}
-use Rattle.offers.specs.declared.Offers.{Offers}
-use Rattle.offers.specs.Offers.{Few}
 use Rattle.command.specs.declared.answers.Answer.{Answer}
 use Rattle.command.specs.declared.answers.Answer.TheVariants as answer
 use Rattle.command.specs.declared.State.{State}
@@ -33,18 +31,18 @@ use Rattle.command.specs.Steps.{Acts, Performs}
 use Rattle.command.proofs.Heaps.{answers, held_none, heap-encoded, held-image}
 
 -- the first k words of a buffer become v
-pub performs-front : (buffer : List ℕ) (s : State) {c : Command} {v : List ℕ} {a : Answer} {r : Registers} {k : ℕ} → k ≤ length buffer → length v ≡ k → Few s.offers
-    → Acts c (take s.words buffer) s.registers s.offers a v r → Performs c buffer s a (v ++ drop k buffer) (holding k r s.offers)
-performs-front buffer s {v = v} {k = k} fits long few acts =
+pub performs-front : (buffer : List ℕ) (s : State) {c : Command} {v : List ℕ} {a : Answer} {r : Registers} {k : ℕ} → k ≤ length buffer → length v ≡ k
+    → Acts c (take s.words buffer) s.registers a v r → Performs c buffer s a (v ++ drop k buffer) (holding k r)
+performs-front buffer s {v = v} {k = k} fits long acts =
     let front : take k (v ++ drop k buffer) ≡ v = take_at v (drop k buffer) k long in
     let all : length (v ++ drop k buffer) ≡ length v + length (drop k buffer) = length-append v (drop k buffer) in
-    record { stepping = rw front acts.stepping; whole = acts.whole; ready = record { within = omega arith; held = rw front acts.held; good = acts.good; few = few } }
+    record { stepping = rw front acts.stepping; whole = acts.whole; ready = record { within = omega arith; held = rw front acts.held; good = acts.good } }
 
 module _ (buffer : List ℕ) (z : Sizes) where
   -- 1
-  pub make-refused : program_bounds z ≡ false → (r : Registers) (offers : Offers) → Good r → Few offers → Performs (new z) buffer (heapless r offers) (answer.Refused 1) buffer (heapless r offers)
+  pub make-refused : program_bounds z ≡ false → (r : Registers) → Good r → Performs (new z) buffer (heapless r) (answer.Refused 1) buffer (heapless r)
   unfolding step stepped no_heap state_of heap_in
-  make-refused e r offers g few = record { stepping = rw e; whole = tt; ready = record { within = zero-le; held = held_none; good = g; few = few } }
+  make-refused e r g = record { stepping = rw e; whole = tt; ready = record { within = zero-le; held = held_none; good = g } }
 
   module _ (room : program_words ≤ length buffer) (e : program_bounds z ≡ true) {k : ℕ} (is : k ≡ or_zero (in_bounds z) (image_length z)) where
     long : k ≡ image_length z
@@ -62,9 +60,9 @@ module _ (buffer : List ℕ) (z : Sizes) where
       unfolding made_outcome left
       make-always f = refused-ok (ap (λ (o : Outcome). o.answer) (ap (λ (x : Made). made_outcome x v) (sym f) ∙ newly))
 
-      pub make-done : m ≡ made.Done → (r : Registers) (offers : Offers) → Good r → Few offers → Performs (new z) buffer (heapless r offers) answer.New (v ++ drop k buffer) (holding k r offers)
+      pub make-done : m ≡ made.Done → (r : Registers) → Good r → Performs (new z) buffer (heapless r) answer.New (v ++ drop k buffer) (holding k r)
       unfolding step no_heap state_of heap_in made_outcome left fresh
-      make-done f r offers g few =
+      make-done f r g =
           let fit : Fit (fresh z) = fresh-fit z (limits-bound z e) in
           let image : v ≡ encode (fresh z) = ap (λ (o : Outcome). o.image) (ap (λ (x : Made). made_outcome x v) (sym f) ∙ newly) in
-          performs-front buffer (heapless r offers) {v = v} make-fits (ap length image ∙ encode-length (fresh z) fit ∙ sym long) few (answers (rw (e, image, heap-encoded fit)) tt (rw image (held-image fit e)) g)
+          performs-front buffer (heapless r) {v = v} make-fits (ap length image ∙ encode-length (fresh z) fit ∙ sym long) (answers (rw (e, image, heap-encoded fit)) tt (rw image (held-image fit e)) g)

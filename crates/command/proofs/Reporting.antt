@@ -21,7 +21,6 @@ use Rattle.report.specs.declared.Reported.{Reported}
 use Rattle.report.specs.declared.Reported.TheVariants.{Taken, Refused}
 use Rattle.registers.specs.declared.Registers.{Registers}
 use Rattle.registers.specs.Cells.{cells_of_registers, Good}
-use Rattle.offers.specs.declared.Offers.{Offers}
 use Rattle.command.specs.declared.answers.Answer.{Answer}
 use Rattle.command.specs.declared.answers.Answer.TheVariants as answer
 use Rattle.command.specs.State.{state_of, Held}
@@ -45,27 +44,27 @@ module _ (w v : List ℕ) where
       let same : p ≡ q = cc in
       (ap refuse same, sym (ap (λ (o : Outcome). o.image) e))
 
-pub report-heapless : {w : List ℕ} {r r' : Registers} {offers : Offers} {a : Answer} → Held w → Good r → length w ≡ 0 → (a ≡ answer.Refused 14) × (r' ≡ r) → Acts report w r offers a w r'
+pub report-heapless : {w : List ℕ} {r r' : Registers} {a : Answer} → Held w → Good r → length w ≡ 0 → (a ≡ answer.Refused 14) × (r' ≡ r) → Acts report w r a w r'
 unfolding step
-report-heapless {w} {r} {offers = offers} h g e = refuses h g (rw (no-heap w r offers e))
+report-heapless {w} {r} h g e = refuses h g (rw (no-heap w r e))
 
-module _ {w : List ℕ} {r : Registers} (h : Held w) (pos : 0 < length w) (g : Good r) (offers : Offers) where
-  step_is : step report (state_of w r offers) ≡ (report_of (decode w) >>= λ x. ok (report_line x.0, holding (some x.1) (cells_of_registers r) (state_of w r offers)))
+module _ {w : List ℕ} {r : Registers} (h : Held w) (pos : 0 < length w) (g : Good r) where
+  step_is : step report (state_of w r) ≡ (report_of (decode w) >>= λ x. ok (report_line x.0, holding (some x.1) (cells_of_registers r) (state_of w r)))
   unfolding step state_of
-  step_is = rw (the_heap_lem w r offers pos)
+  step_is = rw (the_heap_lem w r pos)
 
-  same-acts : {x : List ℕ × Heap} {s : Statistics} {v : List ℕ} → report_of (decode w) ≡ ok x → Left ⊥ (decode w) x.1 → numbers s ≡ x.0 → v ≡ encode x.1 → Acts report w r offers (answer.Report s) v r
+  same-acts : {x : List ℕ × Heap} {s : Statistics} {v : List ℕ} → report_of (decode w) ≡ ok x → Left ⊥ (decode w) x.1 → numbers s ≡ x.0 → v ≡ encode x.1 → Acts report w r (answer.Report s) v r
   same-acts gave left same image =
       let fit = good-heap-fit left.good in
       answers (rw (step_is, gave, same, image, heap-encoded fit)) tt (rw image (held_after fit h pos left.same_size)) g
 
   module _ (o : Reported) (v : List ℕ) (e : reported w (report_of (decode w)) ≡ report_outcome o v) where
-    pub report-refused : {q : ℕ} {a : Answer} {r' : Registers} → o ≡ Refused q → (a ≡ answer.Refused q) × (r' ≡ r) → Acts report w r offers a v r'
+    pub report-refused : {q : ℕ} {a : Answer} {r' : Registers} → o ≡ Refused q → (a ≡ answer.Refused q) × (r' ≡ r) → Acts report w r a v r'
     report-refused f s =
         let (no_answer, same) = same-refusal w v _ (e ∙ ap (λ (x : Reported). report_outcome x v) f) in
         rw same (refuses h g (rw (step_is, no_answer)) s)
 
-    pub report-acts : {s : Statistics} → o ≡ Taken s → Acts report w r offers (answer.Report s) v r
+    pub report-acts : {s : Statistics} → o ≡ Taken s → Acts report w r (answer.Report s) v r
     report-acts f =
         let (x, gave, same, image) = same-report w v _ _ (e ∙ ap (λ (x : Reported). report_outcome x v) f) in
         same-acts gave (holds_at (report-left ⊥ (decode w) (fit-good (h.formed pos).fit)) gave) same image

@@ -36,7 +36,6 @@ use Rattle.access.specs.declared.Stored.TheVariants as stored
 use Rattle.registers.specs.declared.Registers.{Registers}
 use Rattle.registers.specs.Cells.{cells_of_registers, register_of, unset, GoodValue, Good}
 use Rattle.registers.proofs.Values.{spelled-good, got_cell, got-good, set-cells, set-good}
-use Rattle.offers.specs.declared.Offers.{Offers}
 use Rattle.command.specs.declared.answers.Answer.{Answer}
 use Rattle.command.specs.declared.answers.Answer.TheVariants as answer
 use Rattle.command.specs.State.{heap_in, state_of, Held}
@@ -48,12 +47,12 @@ use Rattle.command.proofs.Stored.{written_as, done-left, refused-left, held-writ
 
 -- set
 
-module _ {w : List ℕ} {r : Registers} {offers : Offers} {k a b o : ℕ} {t : Registers} (h : Held w) (g : Good r) where
-  pub set-refused : {c : Answer} → valid_words a b o ≡ false → (c ≡ answer.Refused 3) × (t ≡ r) → Acts (set k a b o) w r offers c w t
+module _ {w : List ℕ} {r : Registers} {k a b o : ℕ} {t : Registers} (h : Held w) (g : Good r) where
+  pub set-refused : {c : Answer} → valid_words a b o ≡ false → (c ≡ answer.Refused 3) × (t ≡ r) → Acts (set k a b o) w r c w t
   unfolding step
   set-refused e = refuses h g (rw e)
 
-  pub set-done : (v : Value) → valid_words a b o ≡ true → Spelled a b o v → t.cells ≡ put r.cells k (register_of v) → Acts (set k a b o) w r offers answer.Set w t
+  pub set-done : (v : Value) → valid_words a b o ≡ true → Spelled a b o v → t.cells ≡ put r.cells k (register_of v) → Acts (set k a b o) w r answer.Set w t
   unfolding step state_of
   set-done v e p is = answers (rw (e, set-cells r t k v is, p.cell)) tt h (set-good r t k v is g (spelled-good a b o v e p))
 
@@ -74,38 +73,38 @@ a-float v {n} {b} e f = let number : n ≡ of_bits binary64 b = rw e at f in rw 
 
 -- what is answered of a figure
 abbrev shown : ModelState → ModelFigure → Res (Line × ModelState)
-shown s f = ok (figure_line s.tag f, s)
+shown s f = ok (figure_line f, s)
 
-module _ {w : List ℕ} {r : Registers} (offers : Offers) (k : ℕ) (h : Held w) (g : Good r) (v : Value) (at : v ≡ (get_or r.cells k unset).value) where
-  pub figure-other : {a : Answer} {t : Registers} → OneOf (0 ∷ 1 ∷ 2 ∷ 4 ∷ 5 ∷ []) (tag_of the_type v) → (a ≡ answer.Refused 15) × (t ≡ r) → Acts (figure k) w r offers a w t
+module _ {w : List ℕ} {r : Registers} (k : ℕ) (h : Held w) (g : Good r) (v : Value) (at : v ≡ (get_or r.cells k unset).value) where
+  pub figure-other : {a : Answer} {t : Registers} → OneOf (0 ∷ 1 ∷ 2 ∷ 4 ∷ 5 ∷ []) (tag_of the_type v) → (a ≡ answer.Refused 15) × (t ≡ r) → Acts (figure k) w r a w t
   unfolding step register state_of
   figure-other o = refuses h g (rw (← got_cell r k at, no-float v o))
 
-  figure-is : step (figure k) (state_of w r offers) ≡ (float_in (value_cell v) >>= figure_in >>= shown (state_of w r offers))
+  figure-is : step (figure k) (state_of w r) ≡ (float_in (value_cell v) >>= figure_in >>= shown (state_of w r))
   unfolding step register state_of
   figure-is = rw (← got_cell r k at) (go (float_in (value_cell v)))
     where
-      go : (m : Res ℕ) → (m >>= λ b. figure_in b >>= shown (state_of w r offers)) ≡ (m >>= figure_in >>= shown (state_of w r offers))
+      go : (m : Res ℕ) → (m >>= λ b. figure_in b >>= shown (state_of w r)) ≡ (m >>= figure_in >>= shown (state_of w r))
       go (ok b) = refl
       go (refuse q) = refl
 
   module _ {n : Float} {b : ℕ} (is : v ≡ FloatV n b) (f : Figured) (e : figured_answer f ≡ figure_of n) where
-    figure-answer : step (figure k) (state_of w r offers) ≡ (figured_answer f >>= shown (state_of w r offers))
+    figure-answer : step (figure k) (state_of w r) ≡ (figured_answer f >>= shown (state_of w r))
     figure-answer = rw (figure-is, a-float v is (got-good r k at g).whole, ← e)
 
-    pub figure-refused : {q : ℕ} {a : Answer} {t : Registers} → f ≡ figured.Refused q → (a ≡ answer.Refused q) × (t ≡ r) → Acts (figure k) w r offers a w t
+    pub figure-refused : {q : ℕ} {a : Answer} {t : Registers} → f ≡ figured.Refused q → (a ≡ answer.Refused q) × (t ≡ r) → Acts (figure k) w r a w t
     figure-refused i = refuses h g (rw (figure-answer, i))
 
-    pub figure-done : {x : Figure} {tag : ℕ} → offers.tag ≡ tag → f ≡ figured.Is x → Acts (figure k) w r offers (answer.Figure tag x) w r
+    pub figure-done : {x : Figure} → f ≡ figured.Is x → Acts (figure k) w r (answer.Figure x) w r
     unfolding holding state_of
-    figure-done e i = answers (rw (figure-answer, i, ← e)) tt h g
+    figure-done i = answers (rw (figure-answer, i)) tt h g
 
 -- where an access goes, in the heap
 
-module _ (w : List ℕ) (r : Registers) (offers : Offers) where
-  aimed : {B : Type 0} → 0 < length w → (c : Cell) (d : ℕ) (f : Heap → Ptr → Res B) → (the_heap (state_of w r offers) >>= λ h. pointer_in c >>= λ x. added x d >>= λ y. f h y) ≡ (target_in c d >>= λ y. f (decode w) y)
+module _ (w : List ℕ) (r : Registers) where
+  aimed : {B : Type 0} → 0 < length w → (c : Cell) (d : ℕ) (f : Heap → Ptr → Res B) → (the_heap (state_of w r) >>= λ h. pointer_in c >>= λ x. added x d >>= λ y. f h y) ≡ (target_in c d >>= λ y. f (decode w) y)
   unfolding target_in
-  aimed {B} l c d f = rw (the_heap_lem w r offers l) (go (pointer_in c))
+  aimed {B} l c d f = rw (the_heap_lem w r l) (go (pointer_in c))
     where
       go : (m : Res Ptr) → (m >>= λ x. added x d >>= λ y. f (decode w) y) ≡ ((m >>= λ x. added x d) >>= λ y. f (decode w) y)
       go (ok x) = refl
@@ -123,31 +122,31 @@ module _ {w : List ℕ} (h : Held w) (l : 0 < length w) (p : Ptr) {x : Loaded} (
   }
 
 -- what is answered of a cell that was read
-abbrev put_in : List ℕ → Registers → Offers → ℕ → Cell → Res (Line × ModelState)
-put_in w r offers k c = ok (load_line c, holding (heap_in w) (put (cells_of_registers r) k c) (state_of w r offers))
+abbrev put_in : List ℕ → Registers → ℕ → Cell → Res (Line × ModelState)
+put_in w r k c = ok (load_line c, holding (heap_in w) (put (cells_of_registers r) k c) (state_of w r))
 
-module _ {w : List ℕ} {r : Registers} (offers : Offers) (k p d : ℕ) (h : Held w) (g : Good r) where
-  pub load-heapless : {a : Answer} {s : Registers} → length w ≡ 0 → (a ≡ answer.Refused 14) × (s ≡ r) → Acts (load k p d) w r offers a w s
+module _ {w : List ℕ} {r : Registers} (k p d : ℕ) (h : Held w) (g : Good r) where
+  pub load-heapless : {a : Answer} {s : Registers} → length w ≡ 0 → (a ≡ answer.Refused 14) × (s ≡ r) → Acts (load k p d) w r a w s
   unfolding step
-  load-heapless e = refuses h g (rw (no-heap w r offers e))
+  load-heapless e = refuses h g (rw (no-heap w r e))
 
   module _ (l : 0 < length w) (v : Value) (at : v ≡ (get_or r.cells p unset).value) (t : Target) (e : target_answer t ≡ target_in (value_cell v) d) where
-    load_is : step (load k p d) (state_of w r offers) ≡ (target_answer t >>= λ y. read (decode w) y >>= put_in w r offers k)
+    load_is : step (load k p d) (state_of w r) ≡ (target_answer t >>= λ y. read (decode w) y >>= put_in w r k)
     unfolding step register state_of
-    load_is = aimed w r offers l (get_or (cells_of_registers r) p blank) d (λ h y. read h y >>= put_in w r offers k) ∙ rw (← got_cell r p at, ← e)
+    load_is = aimed w r l (get_or (cells_of_registers r) p blank) d (λ h y. read h y >>= put_in w r k) ∙ rw (← got_cell r p at, ← e)
 
-    pub load-nowhere : {q : ℕ} {a : Answer} {s : Registers} → t ≡ target.Refused q → (a ≡ answer.Refused q) × (s ≡ r) → Acts (load k p d) w r offers a w s
+    pub load-nowhere : {q : ℕ} {a : Answer} {s : Registers} → t ≡ target.Refused q → (a ≡ answer.Refused q) × (s ≡ r) → Acts (load k p d) w r a w s
     load-nowhere f = refuses h g (rw (load_is, f))
 
     module _ {y : Pointer} (aim : t ≡ target.Is y) (x : Loaded) (m : Loads (read (decode w) (pointer_of y)) x) where
-      load-reads : step (load k p d) (state_of w r offers) ≡ (loaded_cell x >>= put_in w r offers k)
+      load-reads : step (load k p d) (state_of w r) ≡ (loaded_cell x >>= put_in w r k)
       load-reads = rw (load_is, aim, ← m.cell)
 
-      pub load-refused : {q : ℕ} {a : Answer} {s : Registers} → x ≡ loaded.Refused q → (a ≡ answer.Refused q) × (s ≡ r) → Acts (load k p d) w r offers a w s
+      pub load-refused : {q : ℕ} {a : Answer} {s : Registers} → x ≡ loaded.Refused q → (a ≡ answer.Refused q) × (s ≡ r) → Acts (load k p d) w r a w s
       unfolding loaded_cell
       load-refused f = refuses h g (rw (load-reads, f))
 
-      pub load-done : {u : Value} {a : Answer} {s : Registers} → x ≡ loaded.Value u → (a ≡ answer.Load u) × (s.cells ≡ put r.cells k (register_of u)) → Acts (load k p d) w r offers a w s
+      pub load-done : {u : Value} {a : Answer} {s : Registers} → x ≡ loaded.Value u → (a ≡ answer.Load u) × (s.cells ≡ put r.cells k (register_of u)) → Acts (load k p d) w r a w s
       unfolding loaded_cell
       load-done {u} {s = s} f (is, now) =
           let good = loaded-good h l (pointer_of y) m f in
@@ -156,21 +155,21 @@ module _ {w : List ℕ} {r : Registers} (offers : Offers) (k p d : ℕ) (h : Hel
 -- store
 
 -- what is answered of the heap after a write
-abbrev kept : List ℕ → Registers → Offers → Heap → Res (Line × ModelState)
-kept w r offers h = ok (store_line, holding (some h) (cells_of_registers r) (state_of w r offers))
+abbrev kept : List ℕ → Registers → Heap → Res (Line × ModelState)
+kept w r h = ok (store_line, holding (some h) (cells_of_registers r) (state_of w r))
 
-module _ {w : List ℕ} {r : Registers} (offers : Offers) (k p d : ℕ) (h : Held w) (g : Good r) where
-  pub store-heapless : {a : Answer} {s : Registers} → length w ≡ 0 → (a ≡ answer.Refused 14) × (s ≡ r) → Acts (store k p d) w r offers a w s
+module _ {w : List ℕ} {r : Registers} (k p d : ℕ) (h : Held w) (g : Good r) where
+  pub store-heapless : {a : Answer} {s : Registers} → length w ≡ 0 → (a ≡ answer.Refused 14) × (s ≡ r) → Acts (store k p d) w r a w s
   unfolding step
-  store-heapless e = refuses h g (rw (no-heap w r offers e))
+  store-heapless e = refuses h g (rw (no-heap w r e))
 
   module _ (l : 0 < length w) (v : Value) (at : v ≡ (get_or r.cells p unset).value) (t : Target) (e : target_answer t ≡ target_in (value_cell v) d)
       (u : Value) (here : u ≡ (get_or r.cells k unset).value) where
-    store_is : step (store k p d) (state_of w r offers) ≡ (target_answer t >>= λ y. write (decode w) y (value_cell u) >>= kept w r offers)
+    store_is : step (store k p d) (state_of w r) ≡ (target_answer t >>= λ y. write (decode w) y (value_cell u) >>= kept w r)
     unfolding step register state_of
-    store_is = aimed w r offers l (get_or (cells_of_registers r) p blank) d (λ h y. write h y (get_or (cells_of_registers r) k blank) >>= kept w r offers) ∙ rw (← got_cell r p at, ← e, ← got_cell r k here)
+    store_is = aimed w r l (get_or (cells_of_registers r) p blank) d (λ h y. write h y (get_or (cells_of_registers r) k blank) >>= kept w r) ∙ rw (← got_cell r p at, ← e, ← got_cell r k here)
 
-    pub store-nowhere : {q : ℕ} {a : Answer} {s : Registers} → t ≡ target.Refused q → (a ≡ answer.Refused q) × (s ≡ r) → Acts (store k p d) w r offers a w s
+    pub store-nowhere : {q : ℕ} {a : Answer} {s : Registers} → t ≡ target.Refused q → (a ≡ answer.Refused q) × (s ≡ r) → Acts (store k p d) w r a w s
     store-nowhere f = refuses h g (rw (store_is, f))
 
     module _ {y : Pointer} (aim : t ≡ target.Is y) {a b o : ℕ} (words : (a ∷ b ∷ o ∷ []) ≡ cell_words (value_cell u ∷ []))
@@ -181,16 +180,16 @@ module _ {w : List ℕ} {r : Registers} (offers : Offers) (k p d : ℕ) (h : Hel
       as-cell : write_on (decode w) (pointer_of y) (a ∷ b ∷ o ∷ []) ≡ write (decode w) (pointer_of y) (value_cell u)
       as-cell = written_as (decode w) (pointer_of y) (value_cell u) words good.cell
 
-      store_writes : step (store k p d) (state_of w r offers) ≡ (write_on (decode w) (pointer_of y) (a ∷ b ∷ o ∷ []) >>= kept w r offers)
+      store_writes : step (store k p d) (state_of w r) ≡ (write_on (decode w) (pointer_of y) (a ∷ b ∷ o ∷ []) >>= kept w r)
       store_writes = rw (store_is, aim, as-cell)
 
-      pub store-done : x ≡ stored.Done → Acts (store k p d) w r offers answer.Store z r
+      pub store-done : x ≡ stored.Done → Acts (store k p d) w r answer.Store z r
       store-done f =
           let (n, answered, is) = done-left (write_on (decode w) (pointer_of y) (a ∷ b ∷ o ∷ [])) w z x m f in
           let wrote = sym as-cell ∙ answered in
           answers (rw (store_writes, answered, heap-written h l (pointer_of y) (value_cell u) good.cell wrote is)) tt (held-written h l (pointer_of y) (value_cell u) good.cell wrote is) g
 
-      pub store-refused : {q : ℕ} {c : Answer} {s : Registers} → x ≡ stored.Refused q → (c ≡ answer.Refused q) × (s ≡ r) → Acts (store k p d) w r offers c z s
+      pub store-refused : {q : ℕ} {c : Answer} {s : Registers} → x ≡ stored.Refused q → (c ≡ answer.Refused q) × (s ≡ r) → Acts (store k p d) w r c z s
       store-refused {q} f n =
           let (refusal_is, is) = refused-left (write_on (decode w) (pointer_of y) (a ∷ b ∷ o ∷ [])) w z x q m f in
           rw is (refuses h g (rw (store_writes, refusal_is)) n)

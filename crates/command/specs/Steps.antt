@@ -2,12 +2,11 @@
 use Rattle.std.specs.Prelude.{◌≡◌, Bool, true, false, List, ℕ}
 use Rattle.model.specs.Res.{Res, ok, refuse, ◌>>=◌}
 use Rattle.model.specs.Records.{Ptr, Cell}
-use Rattle.model.specs.Command.{Command, new, alloc, set, load, store, report, figure, offer}
+use Rattle.model.specs.Command.{Command, new, alloc, set, load, store, report, figure}
 use Rattle.model.specs.Run.{pointer_in, added, step, stepped}
 use Rattle.access.specs.Access.{pointer_of}
 use Rattle.registers.specs.declared.Registers.{Registers}
 use Rattle.registers.specs.Cells.{Good}
-use Rattle.offers.specs.declared.Offers.{Offers}
 use Rattle.command.specs.declared.answers.Answer.{Answer}
 use Rattle.command.specs.declared.State.{State}
 use Rattle.command.specs.declared.Target.{Target}
@@ -31,21 +30,10 @@ is_new (load r p d) = false
 is_new (store r p d) = false
 is_new report = false
 is_new (figure r) = false
-is_new (offer k) = false
 
-abbrev pub is_offer : Command → Bool
-is_offer (new z) = false
-is_offer (alloc r a) = false
-is_offer (set r a b o) = false
-is_offer (load r p d) = false
-is_offer (store r p d) = false
-is_offer report = false
-is_offer (figure r) = false
-is_offer (offer k) = true
-
--- over the heap's own words; the offers stay
-pub record Acts (c : Command) (w : List ℕ) (r : Registers) (offers : Offers) (a : Answer) (v : List ℕ) (r' : Registers) : Type 0 where
-  pub stepping : stepped (state_of w r offers) (step c (state_of w r offers)) ≡ (answer_line a, state_of v r' offers)
+-- over the heap's own words
+pub record Acts (c : Command) (w : List ℕ) (r : Registers) (a : Answer) (v : List ℕ) (r' : Registers) : Type 0 where
+  pub stepping : stepped (state_of w r) (step c (state_of w r)) ≡ (answer_line a, state_of v r')
   pub whole : GoodAnswer a
   pub held : Held v
   pub good : Good r'

@@ -4,7 +4,7 @@ use figure::Figure;
 use report::Statistics;
 use value::Value;
 
-// A figure's tag is 0 before the first offer. Refused has the number of the question that got a no.
+// Refused has the number of the question that got a no.
 #[derive(Drop)]
 pub enum Answer {
     New,
@@ -13,7 +13,6 @@ pub enum Answer {
     Load(Value),
     Store,
     Report(Statistics),
-    Figure(u32, Figure),
-    Offer,
+    Figure(Figure),
     Refused(u64),
 }

@@ -1,46 +1,36 @@
-// One command of the program: what it asks, what it does to heap, registers and offers, and its answer.
+// One command of the program: what it asks, what it does to heap and registers, and its answer.
 mod answers;
 
-ghost use Rattle.std.specs.Prelude.{◌≡◌, true, false, List, ℕ, ◌<◌, ◌≤◌, length, set as put};
+ghost use Rattle.std.specs.Prelude.{◌≡◌, true, List, ℕ, ◌<◌, ◌≤◌, length, set as put};
 ghost use Rattle.std.specs.Int.{w64};
 ghost use Rattle.std.proofs.Common.{of_z};
 ghost use Rattle.model.specs.Lists.{all_at_most};
-ghost use Rattle.model.specs.Command.{new, alloc, set, load, store, report as reportCommand, figure, offer, registers_of};
+ghost use Rattle.model.specs.Command.{new, alloc, set, load, store, report as reportCommand, figure, registers_of};
 ghost use Rattle.model.specs.Run.{program_bounds};
 ghost use Rattle.theorems.specs.Program.{program_words, program_scratch};
 ghost use Rattle.value.specs.Value.{value_cell};
 ghost use Rattle.image.specs.Places.{sizes};
 ghost use Rattle.registers.specs.Cells.{register_of, Good};
-ghost use Rattle.offers.specs.Offers.{Few};
 ghost use Rattle.reader.specs.Answer.{model_command};
 ghost use Rattle.command.specs.declared.answers.Answer.TheVariants.{Load, Refused};
 ghost use Rattle.command.specs.State.{holding, heapless, Held, Ready};
-ghost use Rattle.command.specs.Steps.{target_answer, target_in, is_new, is_offer, Acts, Performs};
+ghost use Rattle.command.specs.Steps.{target_answer, target_in, is_new, Acts, Performs};
 
 use access::{Loaded, Stored};
 pub use answers::Answer;
 use collector::Allocated;
 use figure::Figured;
 use image::Made;
-use offers::Offers;
 use reader::Command;
 use registers::Registers;
 use report::Reported;
 use value::{Pointer, Value};
 
-// The heap's words in a buffer, 0 without a heap; the registers; the offers named, and the tag.
+// The heap's words in a buffer, 0 without a heap; and the registers.
 #[derive(Drop)]
 pub struct State {
     pub words: usize,
     pub registers: Registers,
-    pub offers: Offers,
-}
-
-// What one command leaves.
-#[derive(Drop)]
-pub struct Performed {
-    pub answer: Answer,
-    pub state: State,
 }
 
 // What one command over the heap's own words leaves.
@@ -64,7 +54,7 @@ fn refused(q: u64, registers: Registers) -> Acted
 // 3 asks of the three words.
 fn set_register(registers: Registers, register: usize, tag: u64, payload: u64, offset: u64) -> Acted
     requires { (register < 16) × Good registers }
-    ensures { (w : List ℕ) (offers : Offers) → Held w → Acts (set register tag payload offset) w registers offers result.answer w result.registers }
+    ensures { (w : List ℕ) → Held w → Acts (set register tag payload offset) w registers result.answer w result.registers }
 {
     if !value::is_valid(tag, payload, offset) {
         return refused(3, registers);
@@ -77,9 +67,9 @@ fn set_register(registers: Registers, register: usize, tag: u64, payload: u64, o
 }
 
 // Only a Float has a figure: 15.
-fn take_figure(registers: Registers, tag: u32, register: usize) -> Acted
+fn take_figure(registers: Registers, register: usize) -> Acted
     requires { (register < 16) × Good registers }
-    ensures { (w : List ℕ) (offers : Offers) → offers.tag ≡ tag → Held w → Acts (figure register) w registers offers result.answer w result.registers }
+    ensures { (w : List ℕ) → Held w → Acts (figure register) w registers result.answer w result.registers }
 {
     let v = registers.get(register);
     let Value::Float { number, .. } = v else {
@@ -87,7 +77,7 @@ fn take_figure(registers: Registers, tag: u32, register: usize) -> Acted
     };
     match figure::figure_of(number) {
         Figured::Is(f) => Acted {
-            answer: Answer::Figure(tag, f),
+            answer: Answer::Figure(f),
             registers,
         },
         Figured::Refused(q) => refused(q, registers),
@@ -107,7 +97,7 @@ fn alloc_in(
     requires held { Held image.old }
     requires program_scratch_in_bounds { program_scratch ≤ length scratch.old }
     requires register_bound { (register < 16) × Good registers }
-    ensures { (offers : Offers) → Acts (alloc register (of_z w64 amount)) image.old registers offers result.answer image.new result.registers }
+    ensures { Acts (alloc register (of_z w64 amount)) image.old registers result.answer image.new result.registers }
 {
     if image.len() == 0 {
         return refused(14, registers);
@@ -179,7 +169,7 @@ fn load_in(
 ) -> Acted
     requires held { Held image.now }
     requires register_bound { (register < 16) × (pointer < 16) × Good registers }
-    ensures { (offers : Offers) → Acts (load register pointer (of_z w64 offset)) image.now registers offers result.answer image.now result.registers }
+    ensures { Acts (load register pointer (of_z w64 offset)) image.now registers result.answer image.now result.registers }
 {
     if image.len() == 0 {
         return refused(14, registers);
@@ -202,7 +192,7 @@ fn store_in(
 ) -> Acted
     requires held { Held image.old }
     requires register_bound { (register < 16) × (pointer < 16) × Good registers }
-    ensures { (offers : Offers) → Acts (store register pointer (of_z w64 offset)) image.old registers offers result.answer image.new result.registers }
+    ensures { Acts (store register pointer (of_z w64 offset)) image.old registers result.answer image.new result.registers }
 {
     if image.len() == 0 {
         return refused(14, registers);
@@ -226,7 +216,7 @@ fn store_in(
 fn report_in(image: &mut [u64], registers: Registers) -> Acted
     requires held { Held image.old }
     requires good { Good registers }
-    ensures { (offers : Offers) → Acts reportCommand image.old registers offers result.answer image.new result.registers }
+    ensures { Acts reportCommand image.old registers result.answer image.new result.registers }
 {
     if image.len() == 0 {
         return refused(14, registers);
@@ -267,7 +257,7 @@ struct Begun {
 // The first heap: 14 got a yes. 1 asks of the program's limits.
 fn make(buffer: &mut [u64], n: u64, t: u64, s: u64, c: u64) -> Begun
     requires { program_words ≤ length buffer.old }
-    ensures { (registers : Registers) (offers : Offers) → Good registers → Few offers → Performs (new (sizes n t s c)) buffer.old (heapless registers offers) result.answer buffer.new (holding result.words registers offers) }
+    ensures { (registers : Registers) → Good registers → Performs (new (sizes n t s c)) buffer.old (heapless registers) result.answer buffer.new (holding result.words registers) }
 {
     if !is_bounded(n, t, s, c) {
         return Begun {
@@ -288,50 +278,18 @@ fn make(buffer: &mut [u64], n: u64, t: u64, s: u64, c: u64) -> Begun
     }
 }
 
-// ---- Offer
-
-// Heap and registers stay.
-fn name_offer(words: usize, registers: Registers, offers: Offers, number: u32) -> Performed
-    requires { Few offers }
-    ensures { (buffer : List ℕ) → Ready buffer (holding words registers offers) → Performs (offer number) buffer (holding words registers offers) result.answer buffer result.state }
-{
-    let named = offers.name(number);
-    let refusal = named.refusal;
-    let after = named.offers;
-    let state = State {
-        words,
-        registers,
-        offers: after,
-    };
-    if refusal == 0 {
-        return Performed {
-            answer: Answer::Offer,
-            state,
-        };
-    }
-    Performed {
-        answer: Answer::Refused(refusal),
-        state,
-    }
-}
-
 // ---- Any command
 
-// Over the heap's own words, none without a heap. A `new` comes here only if there is a heap: 14; an offer never does.
-fn act(
-    image: &mut [u64],
-    scratch: &mut [u64],
-    registers: Registers,
-    tag: u32,
-    command: Command,
-) -> Acted
+// Over the heap's own words, none without a heap. A `new` comes here only if there is a heap: 14.
+fn act(image: &mut [u64], scratch: &mut [u64], registers: Registers, command: Command) -> Acted
     requires held { Held image.old × Good registers }
     requires program_scratch_in_bounds { program_scratch ≤ length scratch.old }
     requires command_value { all_at_most 15 (registers_of (model_command command)) ≡ true }
-    requires image_nonzero { (is_new (model_command command) ≡ true → 0 < length image.old) × (is_offer (model_command command) ≡ false) }
-    ensures { (offers : Offers) → offers.tag ≡ tag → Acts (model_command command) image.old registers offers result.answer image.new result.registers }
+    requires image_nonzero { is_new (model_command command) ≡ true → 0 < length image.old }
+    ensures { Acts (model_command command) image.old registers result.answer image.new result.registers }
 {
     match command {
+        Command::New { .. } => refused(14, registers),
         Command::Alloc { register, amount } => alloc_in(
             image,
             scratch,
@@ -368,24 +326,26 @@ fn act(
             offset,
         ),
         Command::Report => report_in(image, registers),
-        Command::Figure { register } => take_figure(registers, tag, register as usize),
-        _ => refused(14, registers),
+        Command::Figure { register } => take_figure(registers, register as usize),
     }
 }
 
-// The offers stay.
-fn leave(words: usize, acted: Acted, offers: Offers) -> Performed
-    ensures { (result.answer ≡ acted.answer) × (result.state ≡ holding words acted.registers offers) }
+// What one command leaves.
+#[derive(Drop)]
+pub struct Performed {
+    pub answer: Answer,
+    pub state: State,
+}
+
+// The state is made anew here and nowhere else.
+fn leave(words: usize, acted: Acted) -> Performed
+    ensures { (result.answer ≡ acted.answer) × (result.state ≡ holding words acted.registers) }
 {
     let answer = acted.answer;
     let registers = acted.registers;
     Performed {
         answer,
-        state: State {
-            words,
-            registers,
-            offers,
-        },
+        state: State { words, registers },
     }
 }
 
@@ -398,23 +358,13 @@ pub fn perform(buffer: &mut [u64], scratch: &mut [u64], state: State, command: C
 {
     let words = state.words;
     let registers = state.registers;
-    let offers = state.offers;
-    if let Command::Offer { number } = command {
-        return name_offer(words, registers, offers, number);
-    }
     if words == 0 {
         if let Command::New { n, t, s, c } = command {
             let made = make(buffer, n as u64, t as u64, s as u64, c as u64);
             let answer = made.answer;
-            return leave(made.words, Acted { answer, registers }, offers);
+            return leave(made.words, Acted { answer, registers });
         }
     }
-    let acted = act(
-        &mut buffer[..words],
-        scratch,
-        registers,
-        offers.tag,
-        command,
-    );
-    leave(words, acted, offers)
+    let acted = act(&mut buffer[..words], scratch, registers, command);
+    leave(words, acted)
 }

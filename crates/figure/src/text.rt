@@ -13,19 +13,6 @@ pub fn byte(b: u8, out: &mut [u8], at: usize) -> usize
     at + 1
 }
 
-// Bytes as they are.
-pub fn word(w: &[u8], out: &mut [u8], at: usize) -> usize
-    requires { at + length w.now ≤ length out.old }
-    ensures { Wrote w.now out.old at out.new result }
-{
-    let mut i = 0;
-    while i < w.len() {
-        out[at + i] = w[i];
-        i += 1;
-    }
-    at + i
-}
-
 // The last digit of n.
 pub fn digit(n: u64, out: &mut [u8], at: usize) -> usize
     requires { at < length out.old }

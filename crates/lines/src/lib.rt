@@ -1,12 +1,11 @@
 // The listing's lines: a command's number, its answer's text, LF. Each function writes at a place of `out`, leaves the rest as
 // it was, and returns the place behind its text.
-ghost use Rattle.std.specs.Prelude.{◌≡◌, ◌∷◌, ◌++◌, ◌+◌, ◌*◌, ◌≤◌, length};
+ghost use Rattle.std.specs.Prelude.{◌≡◌, ◌+◌, ◌*◌, ◌≤◌, length};
 ghost use Rattle.model.specs.Run.{no_line};
-ghost use Rattle.model.specs.Listing.{spaced, figure_text, cell_text, figure_word, line_text, line};
+ghost use Rattle.model.specs.Listing.{spaced, cell_text, line_text, line};
 ghost use Rattle.value.specs.Value.{value_cell};
-ghost use Rattle.figure.specs.Answer.{model_figure};
 ghost use Rattle.figure.specs.Written.{Wrote};
-ghost use Rattle.command.specs.declared.answers.Answer.TheVariants.{Alloc, Load, Report};
+ghost use Rattle.command.specs.declared.answers.Answer.TheVariants.{Alloc, Load, Report, Figure as FigureOf};
 ghost use Rattle.command.specs.Answers.{answer_line};
 ghost use Rattle.lines.specs.Longest.{longest_spaced, longest_text, longest_line};
 
@@ -17,6 +16,18 @@ use report::Statistics;
 use value::Value;
 
 // ---- Parts of a text
+
+fn word(w: &[u8], out: &mut [u8], at: usize) -> usize
+    requires { at + length w.now ≤ length out.old }
+    ensures { Wrote w.now out.old at out.new result }
+{
+    let mut i = 0;
+    while i < w.len() {
+        out[at + i] = w[i];
+        i += 1;
+    }
+    at + i
+}
 
 // Each after a space.
 fn each_spaced(n: &[u64], out: &mut [u8], at: usize) -> usize
@@ -55,7 +66,7 @@ fn alloc_text(a: Allocation, out: &mut [u8], at: usize) -> usize
     let p = a.pointer;
     let young = a.nursery;
     let old = a.elder;
-    let place = figure::text::word(&[b'a', b'l', b'l', b'o', b'c'], out, at);
+    let place = word(&[b'a', b'l', b'l', b'o', b'c'], out, at);
     let sign = each_spaced(&[p.heap as u64, p.base], out, place);
     let offset = figure::text::byte(b' ', out, sign);
     let counts = figure::text::signed(p.offset, out, offset);
@@ -71,7 +82,7 @@ fn load_text(v: Value, out: &mut [u8], at: usize) -> usize
     ensures { Wrote (line_text (answer_line (Load v))) out.old at out.new result }
 {
     let n = cell_numbers(v);
-    let cell = figure::text::word(&[b'l', b'o', b'a', b'd'], out, at);
+    let cell = word(&[b'l', b'o', b'a', b'd'], out, at);
     each_spaced(&n, out, cell)
 }
 
@@ -80,15 +91,15 @@ fn report_text(s: Statistics, out: &mut [u8], at: usize) -> usize
     ensures { Wrote (line_text (answer_line (Report s))) out.old at out.new result }
 {
     let n = report::words(s);
-    let rest = figure::text::word(&[b'r', b'e', b'p', b'o', b'r', b't'], out, at);
+    let rest = word(&[b'r', b'e', b'p', b'o', b'r', b't'], out, at);
     each_spaced(&n, out, rest)
 }
 
 fn figure_text(f: Figure, out: &mut [u8], at: usize) -> usize
     requires { at + longest_text ≤ length out.old }
-    ensures { Wrote (figure_word ++ 0x20 ∷ figure_text (model_figure f)) out.old at out.new result }
+    ensures { Wrote (line_text (answer_line (FigureOf f))) out.old at out.new result }
 {
-    let space = figure::text::word(&[b'f', b'i', b'g', b'u', b'r', b'e'], out, at);
+    let space = word(&[b'f', b'i', b'g', b'u', b'r', b'e'], out, at);
     let number = figure::text::byte(b' ', out, space);
     figure::figure_text(f, out, number)
 }
@@ -97,7 +108,7 @@ fn refusal_text(q: u64, out: &mut [u8], at: usize) -> usize
     requires { at + longest_text ≤ length out.old }
     ensures { Wrote (line_text (no_line q)) out.old at out.new result }
 {
-    let number = figure::text::word(&[b'n', b'o'], out, at);
+    let number = word(&[b'n', b'o'], out, at);
     figure::text::spaced(q, out, number)
 }
 
@@ -106,14 +117,13 @@ fn text(answer: Answer, out: &mut [u8], at: usize) -> usize
     ensures { Wrote (line_text (answer_line answer)) out.old at out.new result }
 {
     match answer {
-        Answer::New => figure::text::word(&[b'n', b'e', b'w'], out, at),
+        Answer::New => word(&[b'n', b'e', b'w'], out, at),
         Answer::Alloc(a) => alloc_text(a, out, at),
-        Answer::Set => figure::text::word(&[b's', b'e', b't'], out, at),
+        Answer::Set => word(&[b's', b'e', b't'], out, at),
         Answer::Load(v) => load_text(v, out, at),
-        Answer::Store => figure::text::word(&[b's', b't', b'o', b'r', b'e'], out, at),
+        Answer::Store => word(&[b's', b't', b'o', b'r', b'e'], out, at),
         Answer::Report(s) => report_text(s, out, at),
-        Answer::Figure(_, f) => figure_text(f, out, at),
-        Answer::Offer => figure::text::word(&[b'o', b'f', b'f', b'e', b'r'], out, at),
+        Answer::Figure(f) => figure_text(f, out, at),
         Answer::Refused(q) => refusal_text(q, out, at),
     }
 }

@@ -1,15 +1,27 @@
 // The listing of a command file, written into lent buffers, whole lines at a time.
-ghost use Rattle.std.specs.Prelude.{◌+◌, ◌<◌, ◌≤◌, length};
+ghost use Rattle.std.specs.Prelude.{◌≡◌, List, ℕ, ◌+◌, ◌<◌, ◌≤◌, length};
+ghost use Rattle.model.specs.Listing.{listing};
 ghost use Rattle.theorems.specs.Program.{program_words, program_scratch};
-ghost use Rattle.runs.specs.Left.{Going};
-ghost use Rattle.runs.specs.Fills.{Writes, FillsOn};
+ghost use Rattle.reader.specs.Answer.{next_answer};
 ghost use Rattle.lines.specs.Longest.{longest_line};
-ghost use Rattle.listing.specs.Listed.{left_of};
+ghost use Rattle.listing.specs.Left.{stands_at, left_of, Going, Advances, Fills};
 
-use runs::Run;
+use command::{Answer, State};
+use reader::Next;
+use registers::Registers;
 
-// The most bytes of a line.
+// The most bytes of a file, and of a line.
+const FILE: usize = 65536;
+
 const LINE: usize = 259;
+
+// The place and the number of the next command, and the state before it.
+#[derive(Drop)]
+pub struct Run {
+    pub at: usize,
+    pub number: u64,
+    pub state: State,
+}
 
 // The run after what was written, and the place behind that.
 #[derive(Drop)]
@@ -18,8 +30,36 @@ pub struct Filled {
     pub used: usize,
 }
 
+// At the first command, without a heap.
+pub fn begin() -> Run
+    ensures { (file buffer : List ℕ) → Going file buffer result × (left_of file buffer result ≡ listing file) }
+{
+    let state = State {
+        words: 0,
+        registers: Registers::new(),
+    };
+    Run {
+        at: 0,
+        number: 1,
+        state,
+    }
+}
+
+// In a file that is too long nothing is a command.
+fn stands_at(file: &[u8], at: usize) -> Next
+    ensures { next_answer result ≡ stands_at file.now at }
+{
+    if file.len() <= FILE {
+        return reader::read_at(file, at);
+    }
+    if at < file.len() {
+        return Next::Malformed;
+    }
+    Next::End
+}
+
 // One command and its line.
-fn print_next(
+fn advance(
     file: &[u8],
     buffer: &mut [u64],
     scratch: &mut [u64],
@@ -31,16 +71,37 @@ fn print_next(
     requires at_in_bounds { run.at < length file.now }
     requires program_words_in_bounds { (program_words ≤ length buffer.old) × (program_scratch ≤ length scratch.old) }
     requires longest_line_in_bounds { used + longest_line ≤ length out.old }
-    ensures { Writes (left_of file.now) file.now (buffer.old, run) out.old used (buffer.new, result.run) out.new result.used }
+    ensures { Advances file.now buffer.old run out.old used buffer.new result.run out.new result.used }
 {
     let number = run.number;
-    let a = runs::advance(file, buffer, scratch, run);
-    let answer = a.answer;
-    let next = a.run;
-    let end = lines::line(number, answer, out, used);
-    Filled {
-        run: next,
-        used: end,
+    let next = number + 1;
+    let state = run.state;
+    match stands_at(file, run.at) {
+        Next::Is(command, behind) => {
+            let p = command::perform(buffer, scratch, state, command);
+            let answer = p.answer;
+            let after = p.state;
+            let end = lines::line(number, answer, out, used);
+            Filled {
+                run: Run {
+                    at: behind,
+                    number: next,
+                    state: after,
+                },
+                used: end,
+            }
+        }
+        _ => {
+            let end = lines::line(number, Answer::Refused(12), out, used);
+            Filled {
+                run: Run {
+                    at: file.len(),
+                    number: next,
+                    state,
+                },
+                used: end,
+            }
+        }
     }
 }
 
@@ -55,12 +116,12 @@ pub fn fill(
     requires going { Going file.now buffer.old run }
     requires program_words_in_bounds { (program_words ≤ length buffer.old) × (program_scratch ≤ length scratch.old) }
     requires longest_line_in_bounds { longest_line ≤ length out.old }
-    ensures { FillsOn (left_of file.now) file.now (buffer.old, run) (buffer.new, result.run) out.new result.used }
+    ensures { Fills file.now buffer.old run buffer.new result.run out.new result.used }
 {
     let mut next = run;
     let mut used = 0;
     while next.at < file.len() && used + LINE <= out.len() {
-        let f = print_next(file, buffer, scratch, next, out, used);
+        let f = advance(file, buffer, scratch, next, out, used);
         next = f.run;
         used = f.used;
     }

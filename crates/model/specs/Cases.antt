@@ -19,9 +19,8 @@ use Rattle.model.specs.Collector.{moved_to, holds, swap_cell, count_swap, swap_y
 use Rattle.model.specs.Calls.{cells_in, roots_good, value_good, scratch_length, opened, alloc_on, read_on, write_on, Outcome, allocated, left, reported, Call, allocs, reads, writes, call, report_call, new_call}
 use Rattle.model.specs.Figure.{Figure, rounded, figure_of, figure}
 use Rattle.model.specs.Command.{opcodes, operand_bytes, little_endian, field, command_of, registers_of, parse, parse_up_to, parse_all}
-use Rattle.model.specs.Run.{Line, alloc_line, no_line, started, holding, tagging, register, program_bounds, the_heap, no_heap, pointer_in, added, float_in, offer_number, named, step, stepped, answers_from, longest_file, answers}
-use Rattle.model.specs.Listing.{digits, decimal, signed, spaced, figure_text, cell_text, new_word, alloc_word, set_word, load_word, store_word, report_word, figure_word, offer_word, no_word, line_text, line, spelled, lines, listing}
-use Rattle.model.specs.Pages.{ahead, showing, shown_from, superseding, rows_after, aligned, grower_line, supplier_line, grower_text, supplier_text, page_text, grower_page, supplier_page}
+use Rattle.model.specs.Run.{Line, alloc_line, no_line, started, holding, register, program_bounds, the_heap, no_heap, pointer_in, added, float_in, step, stepped}
+use Rattle.model.specs.Listing.{digits, decimal, signed, spaced, figure_text, cell_text, new_word, alloc_word, set_word, load_word, store_word, report_word, figure_word, no_word, line_text, line, lines_from, longest_file, lines, listing}
 
 -- Images, written out
 
@@ -131,8 +130,6 @@ data Trial : Type 0 where
   parses_all : List ℕ → Trial
   writes_line : ℕ → Line → Trial
   runs : List ℕ → Trial
-  for_growers : List ℕ → Trial
-  for_suppliers : List ℕ → Trial
 
 -- the image before it and after it; its answer, or the question that refuses it; the roots afterwards
 record Row : Type 0 where
@@ -173,8 +170,6 @@ outcome (parses file) w = record { answer = parse file >>= λ r. ok r.1; image =
 outcome (parses_all file) w = record { answer = ok (parse_all file).1; image = w; roots = [] }
 outcome (writes_line n l) w = record { answer = ok (line n l); image = w; roots = [] }
 outcome (runs file) w = record { answer = ok (listing file); image = w; roots = [] }
-outcome (for_growers file) w = record { answer = ok (grower_page file); image = w; roots = [] }
-outcome (for_suppliers file) w = record { answer = ok (supplier_page file); image = w; roots = [] }
 
 same : List ℕ → List ℕ → Bool
 same [] [] = true
@@ -228,8 +223,6 @@ roots_of (parses file) = []
 roots_of (parses_all file) = []
 roots_of (writes_line n l) = []
 roots_of (runs file) = []
-roots_of (for_growers file) = []
-roots_of (for_suppliers file) = []
 
 -- a refusal leaves image and roots
 refuses : ℕ → List ℕ → Trial → Row
@@ -275,9 +268,6 @@ REPORT = 0x52 ∷ []
 FIGURE : ℕ → List ℕ
 FIGURE r = 0x46 ∷ r ∷ []
 
-OFFER : ℕ → List ℕ
-OFFER k = 0x4F ∷ little 4 k
-
 bytes : String → List ℕ
 bytes done = []
 bytes (c then s) = code c ∷ bytes s
@@ -298,14 +288,6 @@ prints ls = record { before = []; trial = runs (file_of ls); answer = ok (listin
 -- a line, and its text
 written : ℕ → Line → String → Row
 written n l text = record { before = []; trial = writes_line n l; answer = ok (listing_of (([], text) ∷ [])); after = []; roots = [] }
-
--- what a command file prints on the grower's page, and on the supplier's
-
-grows : List ℕ → List ℕ → Row
-grows file page = record { before = []; trial = for_growers file; answer = ok page; after = []; roots = [] }
-
-supplies : List ℕ → List ℕ → Row
-supplies file page = record { before = []; trial = for_suppliers file; answer = ok page; after = []; roots = [] }
 
 -- The table
 
@@ -1637,108 +1619,6 @@ command_rows =
     ∷ prints ((FIGURE 16, "1 no 12") ∷ [])
     ∷ []
 
--- Offers and pages: 16 to 18
-
--- an offer needs no heap, and is named again; a refused one keeps the tag; figures of all widths and signs
-offers_run : List (List ℕ × String)
-offers_run =
-    (OFFER 1204, "1 offer")
-    ∷ (SET 0 3 0 0x3FB0_0000_0000_0000 0, "2 set")
-    ∷ (FIGURE 0, "3 figure 0.062")
-    ∷ (OFFER 7, "4 offer")
-    ∷ (FIGURE 0, "5 figure 0.062")
-    ∷ (OFFER 0, "6 no 16")
-    ∷ (OFFER 1000000, "7 no 16")
-    ∷ (SET 1 3 0 0xC093_4A45_6D5C_FAAD 0, "8 set")
-    ∷ (FIGURE 1, "9 figure -1234.568")
-    ∷ (OFFER 999999, "10 offer")
-    ∷ (FIGURE 15, "11 no 15")
-    ∷ (OFFER 350000, "12 offer")
-    ∷ (SET 0 3 0 0xBF3A_36E2_EB1C_432D 0, "13 set")
-    ∷ (FIGURE 0, "14 figure 0.000")
-    ∷ (OFFER 1204, "15 offer")
-    ∷ (NEW 4 8 8 16, "16 new")
-    ∷ (ALLOC 3 1, "17 alloc 0 0 0 0 0 0 0")
-    ∷ (STORE 0 3 0, "18 store")
-    ∷ (LOAD 4 3 0, "19 load 3 0 13779386358128460589 0")
-    ∷ (REPORT, "20 report 0 1 1 0 3 0 0 0 0 0 0")
-    ∷ (SET 2 3 0 0xC12E_847F_FFB1_5B57 0, "21 set")
-    ∷ (FIGURE 2, "22 figure -999999.999")
-    ∷ []
-
--- a number's four bytes; one cut short
-numbers_run : List (List ℕ × String)
-numbers_run =
-    (0x4F ∷ 0x3F ∷ 0x42 ∷ 0x0F ∷ 0 ∷ [], "1 offer")
-    ∷ (0x4F ∷ 0x40 ∷ 0x42 ∷ 0x0F ∷ 0 ∷ [], "2 no 16")
-    ∷ (0x4F ∷ 1 ∷ 0 ∷ 0 ∷ 1 ∷ [], "3 no 16")
-    ∷ (0x4F ∷ 1 ∷ 0 ∷ 0 ∷ 0 ∷ [], "4 offer")
-    ∷ (0x4F ∷ 1 ∷ 0 ∷ 0 ∷ [], "5 no 12")
-    ∷ []
-
--- figures before the first offer: the listing shows them, a page only that there is one
-untagged_run : List (List ℕ × String)
-untagged_run =
-    (FIGURE 0, "1 no 15")
-    ∷ (OFFER 0, "2 no 16")
-    ∷ (SET 0 3 0 0x3FF8_0000_0000_0000 0, "3 set")
-    ∷ (FIGURE 0, "4 figure 1.500")
-    ∷ (FIGURE 0, "5 figure 1.500")
-    ∷ (OFFER 7, "6 offer")
-    ∷ (FIGURE 0, "7 figure 1.500")
-    ∷ []
-
--- a register's 1.5 as the figure of offer n, and of n − 1 down to 1
-tagged : ℕ → List ℕ
-tagged zero = []
-tagged (suc n) = OFFER (suc n) ++ FIGURE 0 ++ tagged n
-
--- the grower's lines of offers n to n + k − 1, and the supplier's of 64 offers, downwards, from command n on
-
-growers_lines : ℕ → ℕ → List ℕ
-growers_lines zero n = []
-growers_lines (suc k) n = bytes (cond (ltb n 10) "     " "    ") ++ numeral n ++ bytes "        1.500\n" ++ growers_lines k (suc n)
-
-suppliers_lines : ℕ → ℕ → List ℕ
-suppliers_lines zero n = []
-suppliers_lines (suc k) n = bytes (cond (ltb n 10) "     " (cond (ltb n 100) "    " "   ")) ++ numeral n ++ bytes "  " ++ growers_lines 1 (suc k) ++ suppliers_lines k (suc (suc n))
-
--- 64 offers; a 65th is refused, and keeps the tag, which is 1; one that is known is not, and makes no room; 16 comes first
-sixty_four : List ℕ
-sixty_four = SET 0 3 0 0x3FF8_0000_0000_0000 0 ++ tagged 64
-
-sixty_five : List ℕ
-sixty_five = sixty_four ++ OFFER 65 ++ SET 0 3 0 0xBFF8_0000_0000_0000 0 ++ FIGURE 0 ++ OFFER 33 ++ SET 0 3 0 0 0 ++ FIGURE 0 ++ OFFER 66 ++ OFFER 0
-
--- what its first 129 commands print, from command n on
-alternating : ℕ → ℕ → List ℕ
-alternating zero n = []
-alternating (suc k) n = numeral n ++ bytes " offer\n" ++ numeral (suc n) ++ bytes " figure 1.500\n" ++ alternating k (suc (suc n))
-
-page_rows : List Row
-page_rows =
-    prints offers_run
-    ∷ grows (file_of offers_run) (bytes "     7    -1234.568\n  1204  -999999.999\n350000        0.000\n")
-    ∷ supplies (file_of offers_run) (bytes "     3    1204        0.062\n     5       7        0.062\n     9       7    -1234.568\n    14  350000        0.000\n    22    1204  -999999.999\n")
-    ∷ prints numbers_run
-    ∷ prints untagged_run
-    ∷ grows (file_of untagged_run) (bytes "4 no 17\n")
-    ∷ supplies (file_of untagged_run) (bytes "4 no 17\n")
-    -- no figure, no page; nor of an empty file
-    ∷ grows (OFFER 7 ++ FIGURE 0 ++ REPORT) []
-    ∷ supplies (OFFER 7 ++ FIGURE 0 ++ REPORT) []
-    ∷ grows [] []
-    ∷ supplies [] []
-    -- a malformed command leaves the figures before it
-    ∷ grows (OFFER 999999 ++ SET 0 3 0 0 0 ++ FIGURE 0 ++ 0 ∷ FIGURE 0) (bytes "999999        0.000\n")
-    ∷ supplies (OFFER 999999 ++ SET 0 3 0 0 0 ++ FIGURE 0 ++ 0 ∷ FIGURE 0) (bytes "     3  999999        0.000\n")
-    -- 64 offers, and their last
-    ∷ record { before = []; trial = runs sixty_five; answer = ok (bytes "1 set\n" ++ alternating 64 2 ++ bytes "130 no 18\n131 set\n132 figure -1.500\n133 offer\n134 set\n135 figure 0.000\n136 no 18\n137 no 16\n"); after = []; roots = [] }
-    ∷ grows sixty_four (growers_lines 64 1)
-    ∷ grows sixty_five (bytes "     1       -1.500\n" ++ growers_lines 31 2 ++ bytes "    33        0.000\n" ++ growers_lines 31 34)
-    ∷ supplies sixty_four (suppliers_lines 64 3)
-    ∷ []
-
 -- Bounds that only long inputs reach
 long_rows : List Row
 long_rows =
@@ -1748,24 +1628,20 @@ long_rows =
     -- a file of 65,536 bytes is read, a longer one is not
     ∷ prints ((REPORT, "1 no 14") ∷ (replicate 65535 0, "2 no 12") ∷ [])
     ∷ prints ((REPORT ++ replicate 65536 0, "1 no 12") ∷ [])
-    -- and has empty pages
-    ∷ grows (FIGURE 0 ++ replicate 65535 0) []
-    ∷ supplies (OFFER 7 ++ SET 0 3 0 0 0 ++ FIGURE 0 ++ replicate 65536 0) []
     ∷ []
 
 -- those that take longest stand last: of a wrong definition only the rows up to the first wrong one are computed
 rows : List Row
-rows = cases ++ nursery_rows ++ elder_rows ++ log_rows ++ room_rows ++ access_rows ++ limit_rows ++ report_rows ++ figure_rows ++ command_rows ++ page_rows ++ asked_rows ++ size_rows ++ form_rows ++ cell_rows ++ long_rows
+rows = cases ++ nursery_rows ++ elder_rows ++ log_rows ++ room_rows ++ access_rows ++ limit_rows ++ report_rows ++ figure_rows ++ command_rows ++ asked_rows ++ size_rows ++ form_rows ++ cell_rows ++ long_rows
 
 all-rows : every rows ≡ true
 unfolding changed padded flag_word count_words picture sizes usual unused clean int bool float char ptr one_cell then_three
     minus1 least greatest full figure_numbers pointer_numbers elder_numbers step_numbers outcome same same_answer right every
     to wants looks puts at roots_of refuses shows figured
-    little NEW ALLOC SET LOAD STORE REPORT FIGURE OFFER bytes file_of listing_of prints written grows supplies
+    little NEW ALLOC SET LOAD STORE REPORT FIGURE bytes file_of listing_of prints written
     first_run figure_run cases nursery_rows nine_roots twelve_cells elder_rows log_rows room_rows accessed into_nursery into_elder access_rows limit_rows
     size_rows rich spoilt form_rows accepted rejected cell_rows asked_rows report_rows figure_rows
-    orders_run words_run own_root_run registers_run kept_run set_run last_run numeral unanswered command_rows
-    offers_run numbers_run untagged_run tagged growers_lines suppliers_lines sixty_four sixty_five alternating page_rows long_rows rows
+    orders_run words_run own_root_run registers_run kept_run set_run last_run numeral unanswered command_rows long_rows rows
     of_bits
     keep_if flat places sum all_at_most
     mem add enter walk closure
@@ -1783,8 +1659,6 @@ unfolding changed padded flag_word count_words picture sizes usual unused clean 
     new_call
     rounded figure_of figure
     opcodes operand_bytes little_endian field command_of registers_of parse parse_up_to parse_all digits decimal signed spaced
-    figure_text cell_text new_word alloc_word set_word load_word store_word report_word figure_word offer_word no_word line_text started holding
-    tagging register program_bounds the_heap no_heap pointer_in added float_in offer_number named step stepped answers_from longest_file
-    answers line spelled lines listing
-    ahead showing shown_from superseding rows_after aligned grower_line supplier_line grower_text supplier_text page_text grower_page supplier_page
+    figure_text cell_text new_word alloc_word set_word load_word store_word report_word figure_word no_word line_text started holding
+    register program_bounds the_heap no_heap pointer_in added float_in step stepped line lines_from longest_file lines listing
 all-rows = refl

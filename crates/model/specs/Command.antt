@@ -5,7 +5,7 @@ use Rattle.model.specs.Res.{Res, ok, refuse, ◌>>=◌, ask}
 use Rattle.model.specs.Heap.{Sizes}
 
 -- Commands, with their operands: register and amount; register and the value's three words; register, pointer register and
--- added offset; register; offer number
+-- added offset; register
 pub data Command : Type 0 where
   new : Sizes → Command
   alloc : ℕ → ℕ → Command
@@ -14,11 +14,10 @@ pub data Command : Type 0 where
   store : ℕ → ℕ → ℕ → Command
   report : Command
   figure : ℕ → Command
-  offer : ℕ → Command
 
 -- each command's byte, and how many bytes its operands have
 unfoldable pub opcodes : List (ℕ × ℕ)
-opcodes = (0x4E, 8) ∷ (0x41, 9) ∷ (0x56, 19) ∷ (0x4C, 10) ∷ (0x53, 10) ∷ (0x52, 0) ∷ (0x46, 1) ∷ (0x4F, 4) ∷ []
+opcodes = (0x4E, 8) ∷ (0x41, 9) ∷ (0x56, 19) ∷ (0x4C, 10) ∷ (0x53, 10) ∷ (0x52, 0) ∷ (0x46, 1) ∷ []
 
 unfoldable pub operand_bytes : List (ℕ × ℕ) → ℕ → Res ℕ
 operand_bytes [] op = refuse 12
@@ -41,8 +40,7 @@ command_of op w =
     (cond (eqb op 0x4C) (load (field w 0 1) (field w 1 1) (field w 2 8))
     (cond (eqb op 0x53) (store (field w 0 1) (field w 1 1) (field w 2 8))
     (cond (eqb op 0x52) report
-    (cond (eqb op 0x46) (figure (field w 0 1))
-    (offer (field w 0 4))))))))
+    (figure (field w 0 1)))))))
 
 unfoldable pub registers_of : Command → List ℕ
 registers_of (new z) = []
@@ -52,7 +50,6 @@ registers_of (load r p d) = r ∷ p ∷ []
 registers_of (store r p d) = r ∷ p ∷ []
 registers_of report = []
 registers_of (figure r) = r ∷ []
-registers_of (offer k) = []
 
 -- 12. Is the command known and whole, its registers below 16? The command, and the bytes after it.
 unfoldable pub parse : List ℕ → Res (Command × List ℕ)

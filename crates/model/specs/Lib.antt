@@ -14,6 +14,5 @@ pub mod Figure
 pub mod Command
 pub mod Run
 pub mod Listing
-pub mod Pages
 pub mod Demand
 pub mod Cases

@@ -1,9 +1,10 @@
 -- The listing: the answers of a command file's run as text, a line for each command.
-use Rattle.std.specs.Prelude.{true, false, cond, List, [], ◌∷◌, ◌++◌, ℕ, zero, suc, ◌+◌, ◌-◌, ◌%◌, ◌/◌, ltb, eqb}
+use Rattle.std.specs.Prelude.{true, false, cond, List, [], ◌∷◌, ◌++◌, ℕ, zero, suc, ◌+◌, ◌-◌, ◌%◌, ◌/◌, ltb, leb, eqb, length}
 use Rattle.model.specs.Lists.{flat}
 use Rattle.model.specs.Records.{Cell, plain, ref}
 use Rattle.model.specs.Figure.{Figure}
-use Rattle.model.specs.Run.{Line, new_line, alloc_line, set_line, load_line, store_line, report_line, figure_line, offer_line, no_line, answers}
+use Rattle.model.specs.Command.{Command, parse_all}
+use Rattle.model.specs.Run.{State, started, Line, new_line, alloc_line, set_line, load_line, store_line, report_line, figure_line, no_line, step, stepped}
 
 -- a number below 10^20 in decimal
 unfoldable pub digits : ℕ → ℕ → List ℕ
@@ -33,7 +34,7 @@ unfoldable pub cell_text : Cell → List ℕ
 cell_text (plain k v) = spaced (k ∷ 0 ∷ v ∷ 0 ∷ [])
 cell_text (ref p) = spaced (5 ∷ p.heap ∷ p.base ∷ p.off ∷ [])
 
--- new, alloc, set, load, store, report, figure, offer, no
+-- new, alloc, set, load, store, report, figure, no
 
 unfoldable pub new_word : List ℕ
 new_word = 0x6E ∷ 0x65 ∷ 0x77 ∷ []
@@ -56,13 +57,10 @@ report_word = 0x72 ∷ 0x65 ∷ 0x70 ∷ 0x6F ∷ 0x72 ∷ 0x74 ∷ []
 unfoldable pub figure_word : List ℕ
 figure_word = 0x66 ∷ 0x69 ∷ 0x67 ∷ 0x75 ∷ 0x72 ∷ 0x65 ∷ []
 
-unfoldable pub offer_word : List ℕ
-offer_word = 0x6F ∷ 0x66 ∷ 0x66 ∷ 0x65 ∷ 0x72 ∷ []
-
 unfoldable pub no_word : List ℕ
 no_word = 0x6E ∷ 0x6F ∷ []
 
--- an answer's text; an alloc's offset is signed, a figure's tag is not shown
+-- an answer's text; an alloc's offset is signed
 unfoldable pub line_text : Line → List ℕ
 line_text new_line = new_word
 line_text (alloc_line p counts) = alloc_word ++ spaced (p.heap ∷ p.base ∷ []) ++ 0x20 ∷ signed p.off ++ spaced counts
@@ -70,22 +68,25 @@ line_text set_line = set_word
 line_text (load_line c) = load_word ++ cell_text c
 line_text store_line = store_word
 line_text (report_line numbers) = report_word ++ spaced numbers
-line_text (figure_line tag f) = figure_word ++ 0x20 ∷ figure_text f
-line_text offer_line = offer_word
+line_text (figure_line f) = figure_word ++ 0x20 ∷ figure_text f
 line_text (no_line q) = no_word ++ spaced (q ∷ [])
 
 -- command number, text, LF
 unfoldable pub line : ℕ → Line → List ℕ
 line n l = decimal n ++ 0x20 ∷ line_text l ++ 0x0A ∷ []
 
--- answers as lines, numbered from n
-unfoldable pub spelled : ℕ → List Line → List (List ℕ)
-spelled n [] = []
-spelled n (l ∷ ls) = line n l ∷ spelled (suc n) ls
+-- a line for each command, then one for what is malformed
+unfoldable pub lines_from : ℕ → State → List Command → List ℕ → List (List ℕ)
+lines_from n s [] [] = []
+lines_from n s [] (b ∷ w) = line n (no_line 12) ∷ []
+lines_from n s (c ∷ cs) w = let r = stepped s (step c s) in line n r.0 ∷ lines_from (suc n) r.1 cs w
 
--- a line for each command; a file that is too long prints only `1 no 12`, an empty file nothing
+unfoldable pub longest_file : ℕ
+longest_file = 65536
+
+-- the file is within 65,536 bytes, or it prints only `1 no 12`; an empty file prints nothing
 unfoldable pub lines : List ℕ → List (List ℕ)
-lines file = spelled 1 (answers file)
+lines file = elim (leb (length file) longest_file) [ true ↦ (let l = parse_all file in lines_from 1 started l.0 l.1) | false ↦ line 1 (no_line 12) ∷ [] ]
 
 unfoldable pub listing : List ℕ → List ℕ
 listing file = flat (lines file)

@@ -1,37 +1,29 @@
--- The run of a command file: commands over a heap, sixteen registers and the offers named, each with its answer in numbers.
-use Rattle.std.specs.Prelude.{Bool, true, false, ◌&&◌, List, [], ◌∷◌, ◌++◌, ℕ, ◌+◌, ◌%◌, ltb, leb, eqb, length, get_or, replicate, set as put}
+-- The run of a command file: commands over a heap and sixteen registers, each with its answer in numbers.
+use Rattle.std.specs.Prelude.{Bool, ◌&&◌, List, ℕ, ◌+◌, ◌%◌, leb, eqb, get_or, replicate, set as put}
 use Rattle.std.proofs.Math.Option.{Option, none, some}
 use Rattle.model.specs.Res.{Res, ok, refuse, ◌>>=◌, ask}
-use Rattle.model.specs.Reach.{mem}
 use Rattle.model.specs.Records.{Ptr, Cell, plain, ref, blank, cell_of, valid_words, sum_fits}
 use Rattle.model.specs.Heap.{Sizes, Heap, fresh}
 use Rattle.model.specs.Collector.{four_counts, alloc as alloc_in, read, write, report as report_of}
 use Rattle.model.specs.Figure.{Figure, figure as figure_in}
-use Rattle.model.specs.Command.{Command, new, alloc, set, load, store, report, figure, offer, parse_all}
+use Rattle.model.specs.Command.{Command, new, alloc, set, load, store, report, figure}
 
--- sixteen registers, Uninitialized at first, are the roots; the tag is the offer of later figures, of those named so far
+-- sixteen registers, Uninitialized at first, are the roots
 pub record State : Type 0 where
   pub heap : Option Heap
   pub registers : List Cell
-  pub tag : Option ℕ
-  pub offers : List ℕ
 
 unfoldable pub started : State
-started = record { heap = none; registers = replicate 16 blank; tag = none; offers = [] }
+started = record { heap = none; registers = replicate 16 blank }
 
 -- the state with this heap and these registers
 unfoldable pub holding : Option Heap → List Cell → State → State
-holding h rs s = record { heap = h; registers = rs; tag = s.tag; offers = s.offers }
-
--- the state with this tag, and these offers named
-unfoldable pub tagging : ℕ → List ℕ → State → State
-tagging k os s = record { heap = s.heap; registers = s.registers; tag = some k; offers = os }
+holding h rs s = record { heap = h; registers = rs }
 
 unfoldable pub register : State → ℕ → Cell
 register s r = get_or s.registers r blank
 
--- What a command is answered, in numbers: a pointer and the four counts, a cell, a report's numbers, a figure with its tag, a
--- question
+-- What a command is answered, in numbers: a pointer and the four counts, a cell, a report's numbers, a figure, a question
 pub data Line : Type 0 where
   new_line : Line
   alloc_line : Ptr → List ℕ → Line
@@ -39,8 +31,7 @@ pub data Line : Type 0 where
   load_line : Cell → Line
   store_line : Line
   report_line : List ℕ → Line
-  figure_line : Option ℕ → Figure → Line
-  offer_line : Line
+  figure_line : Figure → Line
   no_line : ℕ → Line
 
 -- the limits of the program: N and S to 128, C to 512
@@ -74,16 +65,8 @@ unfoldable pub float_in : Cell → Res ℕ
 float_in (plain k v) = ask 15 (eqb k 3) >>= λ _. ok v
 float_in (ref p) = refuse 15
 
--- 16. Is the offer's number from 1 to 999,999?
-unfoldable pub offer_number : ℕ → Bool
-offer_number k = ltb 0 k && leb k 999999
-
--- 18. Are the offers named at most 64? One that was named before is none more.
-unfoldable pub named : ℕ → List ℕ → Res (List ℕ)
-named k os = elim (mem eqb k os) [ true ↦ ok os | false ↦ ask 18 (ltb (length os) 64) >>= λ _. ok (os ++ k ∷ []) ]
-
--- A command asks 14 and 13 or 15 first, then what its call asks, an added offset before the index; set asks 3, offer 16 and then
--- 18. The answer, and the state after it.
+-- A command asks 14 and 13 or 15 first, then what its call asks, an added offset before the index; set asks 3. The answer, and
+-- the state after it.
 unfoldable pub step : Command → State → Res (Line × State)
 step (new z) s =
     no_heap s >>= λ _.
@@ -115,26 +98,9 @@ step report s =
 step (figure r) s =
     float_in (register s r) >>= λ b.
     figure_in b >>= λ f.
-    ok (figure_line s.tag f, s)
-step (offer k) s =
-    ask 16 (offer_number k) >>= λ _.
-    named k s.offers >>= λ os.
-    ok (offer_line, tagging k os s)
+    ok (figure_line f, s)
 
 -- a refusal leaves the state
 unfoldable pub stepped : State → Res (Line × State) → Line × State
 stepped s (ok r) = r
 stepped s (refuse q) = (no_line q, s)
-
--- the answer of each command, then that of what is malformed
-unfoldable pub answers_from : State → List Command → List ℕ → List Line
-answers_from s [] [] = []
-answers_from s [] (b ∷ w) = no_line 12 ∷ []
-answers_from s (c ∷ cs) w = let r = stepped s (step c s) in r.0 ∷ answers_from r.1 cs w
-
-unfoldable pub longest_file : ℕ
-longest_file = 65536
-
--- a file's, if it is within 65,536 bytes; of a longer one nothing is run
-unfoldable pub answers : List ℕ → List Line
-answers file = elim (leb (length file) longest_file) [ true ↦ (let l = parse_all file in answers_from started l.0 l.1) | false ↦ no_line 12 ∷ [] ]

@@ -49,7 +49,6 @@ data Known : ℕ → ℕ → Type 0 where
   store : Known 0x53 10
   report : Known 0x52 0
   figure : Known 0x46 1
-  offer : Known 0x4F 4
 
 module _ {op n : ℕ} where
   found : (o : ℕ × ℕ) (os : List (ℕ × ℕ)) → operand_bytes (o ∷ os) op ≡ ok n → Known o.0 o.1 → (operand_bytes os op ≡ ok n → Known op n) → Known op n
@@ -66,7 +65,7 @@ module _ {op n : ℕ} where
 
   known : operand_bytes opcodes op ≡ ok n → Known op n
   unfolding opcodes
-  known e = found _ _ e new λ e. found _ _ e alloc λ e. found _ _ e set λ e. found _ _ e load λ e. found _ _ e store λ e. found _ _ e report λ e. found _ _ e figure λ e. found _ _ e offer none
+  known e = found _ _ e new λ e. found _ _ e alloc λ e. found _ _ e set λ e. found _ _ e load λ e. found _ _ e store λ e. found _ _ e report λ e. found _ _ e figure none
 
 abbrev sizes : List ℕ → Sizes
 sizes w = record { n = field w 0 2; t = field w 2 2; s = field w 4 2; c = field w 6 2 }
@@ -84,7 +83,6 @@ module _ (w w' : List ℕ) (p : Bytes w) (q : Bytes w') where
   same store l l' e = let f = field-same w w' p q l l' in f 0 1 (cc) (f 1 1 (cc) (f 2 8 (cc) (end_same w w' p q l l')))
   same report l l' e = end_same w w' p q l l'
   same figure l l' e = let f = field-same w w' p q l l' in f 0 1 (cc) (end_same w w' p q l l')
-  same offer l l' e = let f = field-same w w' p q l l' in f 0 4 (cc) (end_same w w' p q l l')
 
   pub operands_same : (op : ℕ) → operand_bytes opcodes op ≡ ok (length w) → operand_bytes opcodes op ≡ ok (length w') → command_of op w ≡ command_of op w' → w ≡ w'
   operands_same op k k' e = same (known k) refl (same_ok (sym k ∙ k')) e

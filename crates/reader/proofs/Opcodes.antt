@@ -21,17 +21,17 @@ module _ (op : ℕ) where
   unfolding operand_bytes
   none_left = refl
 
-module _ (op : ℕ) (a : op ≡ 0x4E → ⊥) (b : op ≡ 0x41 → ⊥) (c : op ≡ 0x56 → ⊥) (d : op ≡ 0x4C → ⊥) (e : op ≡ 0x53 → ⊥) (f : op ≡ 0x52 → ⊥) (g : op ≡ 0x46 → ⊥) where
-  pub unknown : (op ≡ 0x4F → ⊥) → operand_bytes opcodes op ≡ refuse 12
+module _ (op : ℕ) (a : op ≡ 0x4E → ⊥) (b : op ≡ 0x41 → ⊥) (c : op ≡ 0x56 → ⊥) (d : op ≡ 0x4C → ⊥) (e : op ≡ 0x53 → ⊥) (f : op ≡ 0x52 → ⊥) where
+  pub unknown : (op ≡ 0x46 → ⊥) → operand_bytes opcodes op ≡ refuse 12
   unfolding opcodes
-  unknown h =
-      another op _ _ a ∙ another op _ _ b ∙ another op _ _ c ∙ another op _ _ d ∙ another op _ _ e ∙ another op _ _ f ∙ another op _ _ g ∙ another op _ _ h ∙ none_left op
+  unknown g =
+      another op _ _ a ∙ another op _ _ b ∙ another op _ _ c ∙ another op _ _ d ∙ another op _ _ e ∙ another op _ _ f ∙ another op _ _ g ∙ none_left op
 
-  -- a known byte that is none of the others is an offer's
-  pub last-known : {n : ℕ} → operand_bytes opcodes op ≡ ok n → (op ≡ 0x4F) × (n ≡ 4)
+  -- a known byte that is none of the others is a figure's
+  pub last-known : {n : ℕ} → operand_bytes opcodes op ≡ ok n → (op ≡ 0x46) × (n ≡ 1)
   unfolding opcodes operand_bytes
-  last-known {n} known = go (eqb op 0x4F) refl
+  last-known {n} known = go (eqb op 0x46) refl
     where
-      go : (t : Bool) → eqb op 0x4F ≡ t → (op ≡ 0x4F) × (n ≡ 4)
-      go true h = let is = eqb-true op 0x4F h in (is, same_ok (rw is at known))
-      go false h = let refused = unknown (eqb-false op 0x4F h) in let z : ◌≡◌ {A = ℕ} 0 1 = cc in absurd (omega arith)
+      go : (t : Bool) → eqb op 0x46 ≡ t → (op ≡ 0x46) × (n ≡ 1)
+      go true h = let is = eqb-true op 0x46 h in (is, same_ok (rw is at known))
+      go false h = let refused = unknown (eqb-false op 0x46 h) in let z : ◌≡◌ {A = ℕ} 0 1 = cc in absurd (omega arith)

@@ -4,9 +4,9 @@ use Rattle.std.proofs.Math.Option.{Option, none, some}
 use Rattle.std.specs.Int.{w64}
 use Rattle.std.proofs.Common.{of_z}
 use Rattle.model.specs.Res.{Res, ok, refuse}
-use Rattle.model.specs.Command.{Command as ModelCommand, new, alloc, set, load, store, report, figure, offer, parse}
+use Rattle.model.specs.Command.{Command as ModelCommand, new, alloc, set, load, store, report, figure, parse}
 use Rattle.reader.specs.declared.Command.{Command}
-use Rattle.reader.specs.declared.Command.TheVariants.{New, Alloc, Set, Load, Store, Report, Figure, Offer}
+use Rattle.reader.specs.declared.Command.TheVariants.{New, Alloc, Set, Load, Store, Report, Figure}
 use Rattle.reader.specs.declared.Operands.{Operands}
 use Rattle.reader.specs.declared.Operands.TheVariants.{Are, Unknown}
 use Rattle.reader.specs.declared.Next.{Next}
@@ -22,7 +22,6 @@ model_command (Load r p d) = load r p (of_z w64 d)
 model_command (Store r p d) = store r p (of_z w64 d)
 model_command Report = report
 model_command (Figure r) = figure r
-model_command (Offer k) = offer k
 
 abbrev pub operands_answer : Operands → Res ℕ
 operands_answer (Are k) = ok k

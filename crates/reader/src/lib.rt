@@ -40,9 +40,6 @@ pub enum Command {
     Figure {
         register: u8,
     },
-    Offer {
-        number: u32,
-    },
 }
 
 // What stands at a place of a file: a command and the place behind it, the file's end, or what question 12 refuses.
@@ -73,7 +70,7 @@ fn field(w: &[u8], at: usize, k: usize) -> u64
     value
 }
 
-// Operands of one, two, four and eight bytes.
+// Operands of one, two and eight bytes.
 fn byte_at(w: &[u8], at: usize) -> u8
     requires { at + 1 ≤ length w.now }
     ensures { result ≡ field_of w.now at 1 }
@@ -86,13 +83,6 @@ fn short_at(w: &[u8], at: usize) -> u16
     ensures { result ≡ field_of w.now at 2 }
 {
     field(w, at, 2) as u16
-}
-
-fn long_at(w: &[u8], at: usize) -> u32
-    requires { at + 4 ≤ length w.now }
-    ensures { result ≡ field_of w.now at 4 }
-{
-    field(w, at, 4) as u32
 }
 
 fn word_at(w: &[u8], at: usize) -> u64
@@ -186,14 +176,6 @@ fn figure_of(w: &[u8]) -> Command
     Command::Figure { register }
 }
 
-fn offer_of(w: &[u8]) -> Command
-    requires { length w.now ≡ 4 }
-    ensures { model_command result ≡ command_of 0x4F w.now }
-{
-    let number = long_at(w, 0);
-    Command::Offer { number }
-}
-
 // The byte of each command.
 const NEW: u8 = 0x4E;
 
@@ -208,8 +190,6 @@ const STORE: u8 = 0x53;
 const REPORT: u8 = 0x52;
 
 const FIGURE: u8 = 0x46;
-
-const OFFER: u8 = 0x4F;
 
 // How many operand bytes a command has, if its byte is known.
 #[derive(Drop)]
@@ -229,7 +209,6 @@ fn operands_of(op: u8) -> Operands
         STORE => Operands::Are(10),
         REPORT => Operands::Are(0),
         FIGURE => Operands::Are(1),
-        OFFER => Operands::Are(4),
         _ => Operands::Unknown,
     }
 }
@@ -246,8 +225,7 @@ fn command_of(op: u8, w: &[u8]) -> Command
         LOAD => load_of(w),
         STORE => store_of(w),
         REPORT => Command::Report,
-        FIGURE => figure_of(w),
-        _ => offer_of(w),
+        _ => figure_of(w),
     }
 }
 
@@ -271,7 +249,6 @@ fn registers_hold(command: Command) -> bool
         } => register <= 15 && pointer <= 15,
         Command::Report => true,
         Command::Figure { register } => register <= 15,
-        Command::Offer { .. } => true,
     }
 }
 

@@ -5,7 +5,8 @@ use mathlib.Core.Logic.{◌⊎◌, ◌≢◌, inl, inr, ⊎_elim}
 use mathlib.Core.List.Memᴰ
 use mathlib.Core.List.{List, [], ◌∷◌, ◌++◌, append_assoc}
 use mathlib.Core.Option.{none, some}
-use Prim.Native.Nat.{ℕ, ◌≤◌}
+use Prim.Native.Nat.{ℕ, suc, ◌+◌, ◌≤◌}
+use native.Mathlib.Nat.{add-zero, add-suc, suc-add}
 use native.Mathlib.Omega.{arith}
 use lib.ListN.{length, set as put}
 use Rattle.model.specs.Res.{Res, ok, refuse, ◌>>=◌}
@@ -14,10 +15,11 @@ use Rattle.model.specs.Heap.{Sizes, Heap, fresh}
 use Rattle.model.specs.Image.{encode}
 use Rattle.model.specs.Calls.{Outcome, Call, call}
 use Rattle.model.specs.Figure.{Figure, figure as figure_in}
-use Rattle.model.specs.Command.{Command, new, alloc, set, load, store, report, figure, offer, parse_all}
-use Rattle.model.specs.Run.{State, started, holding, tagging, register, Line, new_line, program_bounds, the_heap, no_heap, float_in, offer_number, named, step, stepped, answers_from, longest_file}
+use Rattle.model.specs.Command.{Command, new, alloc, set, load, store, report, figure, parse_all}
+use Rattle.model.specs.Run.{State, started, holding, register, Line, new_line, program_bounds, the_heap, no_heap, float_in, step, stepped}
+use Rattle.model.specs.Listing.{line, lines_from, longest_file}
 use Rattle.model.specs.Demand.{History, nothing, next}
-use Rattle.theorems.specs.Files.{call_of, Follows, ends, quiet, calls, NoReport, Registered, opening, Served, state_after, Heapless, ServedFile}
+use Rattle.theorems.specs.Files.{call_of, Follows, ends, quiet, calls, NoReport, Registered, opening, Served, state_after, Heapless, spelled, ServedFile}
 use Rattle.theorems.proofs.Cells.{cell-valid, valid-blanks}
 use Rattle.theorems.proofs.Image.{decode-encode, fresh-fit}
 use Rattle.theorems.proofs.Demand.{demand-3}
@@ -97,7 +99,7 @@ module _ {s : State} (bare : s.heap ≡ none) (g : Registered s) where
   stays n e = waits s n e bare g
 
   before : (c : Command) → Before s c
-  unfolding step stepped no_heap call_of holding tagging
+  unfolding step stepped no_heap call_of holding
   before (new z) = go (program_bounds z) refl
     where
       go : (t : Bool) → program_bounds z ≡ t → Before s (new z)
@@ -114,22 +116,13 @@ module _ {s : State} (bare : s.heap ≡ none) (g : Registered s) where
   before report = stays refl (rw no-heap)
   before (figure r) = stays refl (go (float_in (register s r)))
     where
-      shown : (m : Res Figure) → (stepped s (m >>= λ f. ok (Line.figure_line s.tag f, s))).1 ≡ s
+      shown : (m : Res Figure) → (stepped s (m >>= λ f. ok (Line.figure_line f, s))).1 ≡ s
       shown (ok f) = refl
       shown (refuse q) = refl
 
-      go : (m : Res ℕ) → (stepped s (m >>= λ b. figure_in b >>= λ f. ok (Line.figure_line s.tag f, s))).1 ≡ s
+      go : (m : Res ℕ) → (stepped s (m >>= λ b. figure_in b >>= λ f. ok (Line.figure_line f, s))).1 ≡ s
       go (ok b) = shown (figure_in b)
       go (refuse q) = refl
-  before (offer k) = go (offer_number k) refl
-    where
-      names : offer_number k ≡ true → (m : Res (List ℕ)) → named k s.offers ≡ m → Before s (offer k)
-      names e (ok os) n = waits (tagging k os s) refl (rw (e, n)) bare (record { sixteen = g.sixteen; valid_cells = g.valid_cells })
-      names e (refuse q) n = stays refl (rw (e, n))
-
-      go : (t : Bool) → offer_number k ≡ t → Before s (offer k)
-      go true e = names e (named k s.offers) refl
-      go false e = stays refl (rw e)
 
 after_next : (s : State) (c : Command) (cs : List Command) {t : State} → (stepped s (step c s)).1 ≡ t → state_after s (c ∷ cs) ≡ state_after t cs
 unfolding state_after
@@ -163,7 +156,6 @@ reporting (load r p d) = inr (λ e. let z : ◌≡◌ {A = ℕ} 0 1 = cc in omeg
 reporting (store r p d) = inr (λ e. let z : ◌≡◌ {A = ℕ} 0 1 = cc in omega arith)
 reporting report = inl refl
 reporting (figure r) = inr (λ e. let z : ◌≡◌ {A = ℕ} 0 1 = cc in omega arith)
-reporting (offer k) = inr (λ e. let z : ◌≡◌ {A = ℕ} 0 1 = cc in omega arith)
 
 record Parted (cs : List Command) : Type 0 where
   front : List Command
@@ -180,41 +172,43 @@ part (c ∷ cs) = go (part cs) (reporting c)
     go p (inl e) = record { front = []; back = c ∷ cs; whole = refl; no_report = Memᴰ.not-nil; then_report = inr (cs, ap (◌∷ cs) e) }
     go p (inr n) = record { front = c ∷ p.front; back = p.back; whole = ap (c ∷◌) p.whole; no_report = λ m. ⊎_elim (λ e. n (sym e)) p.no_report (Memᴰ.cases_cons m); then_report = p.then_report }
 
--- The answers
+-- The lines
 
-answers-joined : (s : State) (cs ds : List Command) (left : List ℕ) → answers_from s (cs ++ ds) left ≡ answers_from s cs [] ++ answers_from (state_after s cs) ds left
-unfolding answers_from state_after
-answers-joined s [] ds left = refl
-answers-joined s (c ∷ cs) ds left = rw (answers-joined (stepped s (step c s)).1 cs ds left)
+lines-joined : (n : ℕ) (s : State) (cs ds : List Command) (left : List ℕ) → lines_from n s (cs ++ ds) left ≡ lines_from n s cs [] ++ lines_from (n + length cs) (state_after s cs) ds left
+unfolding lines_from state_after
+lines-joined n s [] ds left = rw (add-zero n)
+lines-joined n s (c ∷ cs) ds left = rw (lines-joined (suc n) (stepped s (step c s)).1 cs ds left, suc-add, add-suc)
 
-record Answered (s : State) (cs : List Command) (ls : List Line) (u : State) : Type 0 where
-  so : answers_from s cs [] ≡ ls
+record Listed (n : ℕ) (s : State) (cs : List Command) (ls : List Line) (u : State) : Type 0 where
+  spelled-so : lines_from n s cs [] ≡ spelled n ls
   reached : state_after s cs ≡ u
 
-one_answer : {s t u : State} {c : Command} {cs : List Command} {a : Line} {ls : List Line} → stepped s (step c s) ≡ (a, t) → Answered t cs ls u → Answered s (c ∷ cs) (a ∷ ls) u
-unfolding answers_from
-one_answer {s = s} {c = c} {cs = cs} e k = record { so = rw (e, k.so); reached = after_next s c cs (ap (λ (r : Line × State). r.1) e) ∙ k.reached }
+one_line : {n : ℕ} {s t u : State} {c : Command} {cs : List Command} {a : Line} {ls : List Line} → stepped s (step c s) ≡ (a, t) → Listed (suc n) t cs ls u → Listed n s (c ∷ cs) (a ∷ ls) u
+unfolding lines_from spelled
+one_line {s = s} {c = c} {cs = cs} e k = record { spelled-so = rw (e, k.spelled-so); reached = after_next s c cs (ap (λ (r : Line × State). r.1) e) ∙ k.reached }
 
-follows-answers : {s u : State} {w v : List ℕ} {cs : List Command} {ls : List Line} {l : List (Call × Outcome)} → Follows s w cs ls l u v → Answered s cs ls u
-unfolding answers_from state_after
-follows-answers (ends h) = record { so = refl; reached = refl }
-follows-answers (quiet h k e f) = one_answer e (follows-answers f)
-follows-answers (calls k o h m is e r f) = one_answer e (follows-answers f)
+follows-lines : {s u : State} {w v : List ℕ} {cs : List Command} {ls : List Line} {l : List (Call × Outcome)} → Follows s w cs ls l u v → (n : ℕ) → Listed n s cs ls u
+unfolding lines_from spelled state_after
+follows-lines (ends h) n = record { spelled-so = refl; reached = refl }
+follows-lines (quiet h k e f) n = one_line e (follows-lines f (suc n))
+follows-lines (calls k o h m is e r f) n = one_line e (follows-lines f (suc n))
 
 -- a file
 
-module _ (s : State) (z : Sizes) (cs rest : List Command) (left : List ℕ) (v : Served s z cs) where
-  served-answers : answers_from s (new z ∷ cs ++ rest) left ≡ new_line ∷ v.answers ++ answers_from v.last rest left
-  unfolding answers_from
-  served-answers =
-      let k = follows-answers v.follows in
-      rw (v.opens, answers-joined (opening z s) cs rest left, k.so, k.reached)
+module _ (n : ℕ) (s : State) (z : Sizes) (cs rest : List Command) (left : List ℕ) (v : Served s z cs) where
+  served-lines : lines_from n s (new z ∷ cs ++ rest) left ≡ line n new_line ∷ spelled (suc n) v.answers ++ lines_from (suc n + length cs) v.last rest left
+  unfolding lines_from
+  served-lines =
+      let k = follows-lines v.follows (suc n) in
+      rw (v.opens, lines-joined (suc n) (opening z s) cs rest left, k.spelled-so, k.reached)
 
-file-answers : (pre : List Command) (z : Sizes) (cs rest : List Command) (left : List ℕ) (v : Served (state_after started pre) z cs)
-    → answers_from started (pre ++ new z ∷ cs ++ rest) left ≡ answers_from started pre [] ++ new_line ∷ v.answers ++ answers_from v.last rest left
-file-answers pre z cs rest left v =
-    rw (append_assoc pre (new z ∷ cs) rest, answers-joined started pre (new z ∷ cs ++ rest) left, served-answers (state_after started pre) z cs rest left v)
-    (sym (append_assoc (answers_from started pre []) (new_line ∷ v.answers) _))
+file-lines : (pre : List Command) (z : Sizes) (cs rest : List Command) (left : List ℕ) (v : Served (state_after started pre) z cs)
+    → lines_from 1 started (pre ++ new z ∷ cs ++ rest) left
+    ≡ lines_from 1 started pre [] ++ line (suc (length pre)) new_line ∷ spelled (suc (suc (length pre))) v.answers ++ lines_from (suc (suc (length pre)) + length cs) v.last rest left
+file-lines pre z cs rest left v =
+    let number : 1 + length pre ≡ suc (length pre) = omega arith in
+    rw (append_assoc pre (new z ∷ cs) rest, lines-joined 1 started pre (new z ∷ cs ++ rest) left, number, served-lines (suc (length pre)) (state_after started pre) z cs rest left v)
+    (sym (append_assoc (lines_from 1 started pre []) (line (suc (length pre)) new_line ∷ spelled (suc (suc (length pre))) v.answers) _))
 
 started-registered : Registered started
 unfolding started
@@ -243,7 +237,7 @@ file-served file short = go (find (parse_all file).0 started started-bare starte
       no_report = p.no_report;
       then_report = p.then_report;
       served = v;
-      answered = within file short ∙ ap (λ (cs : List Command). answers_from started cs left) all ∙ file-answers pre z p.front p.back left v;
+      printed = within file short ∙ ap (λ (cs : List Command). lines_from 1 started cs left) all ∙ file-lines pre z p.front p.back left v;
     })
       where
         p : Parted rest

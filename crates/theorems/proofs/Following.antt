@@ -15,8 +15,8 @@ use Rattle.model.specs.Image.{encode, decode}
 use Rattle.model.specs.Collector.{Allocation, four_counts, alloc as alloc_in, read, write}
 use Rattle.model.specs.Calls.{roots_good, value_good, scratch_length, alloc_on, read_on, write_on, allocated, left, Call, allocs, reads, writes, call}
 use Rattle.model.specs.Figure.{Figure, figure as figure_in}
-use Rattle.model.specs.Command.{Command, new, alloc, set, load, store, report, figure, offer}
-use Rattle.model.specs.Run.{State, holding, tagging, register, Line, alloc_line, set_line, load_line, store_line, figure_line, offer_line, no_line, program_bounds, the_heap, no_heap, pointer_in, added, float_in, offer_number, named, step, stepped}
+use Rattle.model.specs.Command.{Command, new, alloc, set, load, store, report, figure}
+use Rattle.model.specs.Run.{State, holding, register, Line, alloc_line, set_line, load_line, store_line, figure_line, no_line, program_bounds, the_heap, no_heap, pointer_in, added, float_in, step, stepped}
 use Rattle.theorems.specs.Fit.{Fit, Image}
 use Rattle.theorems.specs.Program.{program_scratch}
 use Rattle.theorems.specs.Files.{call_of, ReadOff, refused, allocated as allocates, loaded, stored, Registered}
@@ -99,30 +99,12 @@ module _ {z : Sizes} (bounds : program_bounds z ≡ true) {s : State} {w : List 
   figure-one r = go (float_in (register s r)) refl
     where
       next : (b : ℕ) → float_in (register s r) ≡ ok b → (m : Res Figure) → figure_in b ≡ m → One z s w (figure r)
-      next b e (ok f) g = rests (figure_line s.tag f) s refl (rw (e, g)) at
+      next b e (ok f) g = rests (figure_line f) s refl (rw (e, g)) at
       next b e (refuse q) g = refuses q refl (rw (e, g))
 
       go : (m : Res ℕ) → float_in (register s r) ≡ m → One z s w (figure r)
       go (ok b) e = next b e (figure_in b) refl
       go (refuse q) e = refuses q refl (rw e)
-
-  -- heap and registers stay
-  offer-one : (k : ℕ) → One z s w (offer k)
-  unfolding step call_of tagging
-  offer-one k = go (offer_number k) refl
-    where
-      names : offer_number k ≡ true → (m : Res (List ℕ)) → named k s.offers ≡ m → One z s w (offer k)
-      names e (ok os) g = rests offer_line (tagging k os s) refl (rw (e, g)) (record {
-        heap = at.heap;
-        image = at.image;
-        sizes = at.sizes;
-        registered = record { sixteen = at.registered.sixteen; valid_cells = at.registered.valid_cells };
-      })
-      names e (refuse q) g = refuses q refl (rw (e, g))
-
-      go : (t : Bool) → offer_number k ≡ t → One z s w (offer k)
-      go true e = names e (named k s.offers) refl
-      go false e = refuses 16 refl (rw e)
 
   -- with a call
 
@@ -283,4 +265,3 @@ module _ {z : Sizes} (bounds : program_bounds z ≡ true) {s : State} {w : List 
   one (store r p d) n = store-one r p d
   one report n = absurd (n refl)
   one (figure r) n = figure-one r
-  one (offer k) n = offer-one k

@@ -1,6 +1,6 @@
 -- Laws of the definitions' own parts, then the heap's, then the theorems: Image (encode and decode), Kept (what calls leave),
--- Demand (demand 3), Reading (command files), Rounding, Figure and Printed (a figure and its text), Offers and Pages (a file's pages),
--- Numbered (refusals), Doors and Files (demand 3 for the doors in use and for command files).
+-- Demand (demand 3), Reading (command files), Rounding, Figure and Printed (a figure and its text), Numbered (refusals), Doors and Files
+-- (demand 3 for the doors in use and for command files).
 pub mod Res
 pub mod Lists
 pub mod Reach
@@ -28,8 +28,6 @@ pub mod Printed
 pub mod Does
 pub mod Apart
 pub mod Parts
-pub mod Offers
-pub mod Pages
 pub mod Numbered
 pub mod Doors
 pub mod Program

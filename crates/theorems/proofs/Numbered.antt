@@ -1,9 +1,9 @@
--- A call and a command are refused only by their own questions, and so are a listing's commands and a page.
+-- A call and a command are refused only by their own questions.
 use mathlib.Core.Path.{◌≡◌, refl, sym, ◌∙◌}
 use mathlib.Core.Bool.{Bool, true, false, not, ◌&&◌, true≢false}
 use mathlib.Core.Logic.{⊎_elim}
 use mathlib.Core.List.Memᴰ
-use mathlib.Core.List.{List, [], ◌∷◌, ◌++◌, Memᴰ}
+use mathlib.Core.List.{List, [], ◌∷◌, Memᴰ}
 use mathlib.Core.Option.{Option, none, some}
 use Prim.Native.Nat.{ℕ, zero, suc, ◌+◌, ◌-◌, ◌*◌, ◌%◌, ◌/◌, ◌<◌}
 use native.Mathlib.Omega.{arith}
@@ -24,17 +24,12 @@ use Rattle.model.specs.Collector.{moved_to, holds, count_swap, swap_young, swap_
 use Rattle.model.specs.Calls.{roots_good, value_good, scratch_length, opened, alloc_on, read_on, write_on, allocated, left, reported, Call, allocs, reads, writes, call, report_call, new_call}
 use Rattle.model.specs.Figure.{rounded, figure_of, figure}
 use Rattle.model.specs.Command.{Command}
-use Rattle.model.specs.Run.{State, started, Line, no_line, program_bounds, the_heap, no_heap, pointer_in, added, float_in, offer_number, named, step, stepped, answers_from, answers}
-use Rattle.model.specs.Pages.{Entry, Shown, ahead, showing, shown_from}
-use Rattle.theorems.specs.Holds.{Holds}
-use Rattle.theorems.specs.Numbered.{Numbered, answered, numbered, alloc_questions, read_questions, write_questions, report_questions, call_numbers, report_numbers, new_numbers, command_numbers, listing_numbers, page_numbers, PageNumbered, shown}
-use Rattle.theorems.proofs.Res.{holds_at}
+use Rattle.model.specs.Run.{State, program_bounds, the_heap, no_heap, pointer_in, added, float_in, step}
+use Rattle.theorems.specs.Numbered.{Numbered, answered, numbered, alloc_questions, read_questions, write_questions, report_questions, call_numbers, report_numbers, new_numbers, command_numbers}
 use Rattle.theorems.proofs.Reach.{Sub, mem-true, mem-has}
 use Rattle.theorems.proofs.Lists.{and_parts, eqb_same}
 use Rattle.theorems.proofs.Members.{no-young}
 use Rattle.theorems.proofs.Kept.{refused-ok}
-use Rattle.theorems.proofs.Reading.{answers-run}
-use Rattle.theorems.proofs.Offers.{Figured, untagged, tagged, neither, figured, answered-line}
 
 -- each of these numbers is one of those
 
@@ -331,14 +326,6 @@ unfolding float_in mem
 float-numbered (plain k v) = then 15 (eqb k 3) refl answered
 float-numbered (ref p) = refuses 15 refl
 
-named-numbered : (k : ℕ) (os : List ℕ) → Numbered (18 ∷ []) (named k os)
-unfolding named mem
-named-numbered k os = go (mem eqb k os)
-  where
-    go : (b : Bool) → Numbered (18 ∷ []) {A = List ℕ} (elim b [ true ↦ ok os | false ↦ ask 18 (ltb (length os) 64) >>= λ _. ok (os ++ k ∷ []) ])
-    go true = answered
-    go false = then 18 (ltb (length os) 64) refl answered
-
 pub step-numbered : (c : Command) (s : State) → Numbered (command_numbers c) (step c s)
 unfolding step figure command_numbers alloc_questions read_questions write_questions report_questions mem
 step-numbered (Command.new z) s = fewer (no-heap-numbered s) refl (λ _. then 1 (program_bounds z) refl answered)
@@ -356,58 +343,3 @@ step-numbered (Command.store r p d) s =
     fewer (write-numbered h y _) refl (λ _. answered))))
 step-numbered Command.report s = fewer (heap-numbered s) refl (λ h. fewer (report-numbered h) refl (λ _. answered))
 step-numbered (Command.figure r) s = fewer (float-numbered _) refl (λ _. fewer (figure-numbered _) refl (λ _. answered))
-step-numbered (Command.offer k) s = then 16 (offer_number k) refl (fewer (named-numbered k s.offers) refl (λ _. answered))
-
--- a listing
-
-commands-listed : (c : Command) → among (command_numbers c) listing_numbers ≡ true
-unfolding command_numbers alloc_questions read_questions write_questions report_questions listing_numbers mem
-commands-listed (Command.new z) = refl
-commands-listed (Command.alloc r a) = refl
-commands-listed (Command.set r a b o) = refl
-commands-listed (Command.load r p d) = refl
-commands-listed (Command.store r p d) = refl
-commands-listed Command.report = refl
-commands-listed (Command.figure r) = refl
-commands-listed (Command.offer k) = refl
-
-line-numbered : {qs : List ℕ} (s : State) {m : Res (Line × State)} → Numbered qs m → Holds (λ r. (q : ℕ) → r.0 ≡ no_line q → ⊥) m → (q : ℕ) → no_line q ≡ (stepped s m).0 → Memᴰ q qs
-unfolding stepped
-line-numbered s answered h q e = absurd (holds_at h refl q (sym e))
-line-numbered s (numbered {q = p} m) h q e = let k : q ≡ p = cc in rw k m
-
-run-numbered : (s : State) (cs : List Command) (w : List ℕ) (q : ℕ) → Memᴰ (no_line q) (answers_from s cs w) → Memᴰ q listing_numbers
-unfolding answers_from listing_numbers mem
-run-numbered s [] [] q m = absurd (Memᴰ.not-nil m)
-run-numbered s [] (b ∷ w) q m = let k : q ≡ 12 = cc (Memᴰ.eq_of_singleton m) in rw k (listed 12 listing_numbers refl)
-run-numbered s (c ∷ cs) w q m =
-    ⊎_elim
-    (λ e. among_in (command_numbers c) listing_numbers (commands-listed c) q (line-numbered s (step-numbered c s) (answered-line c s) q e))
-    (run-numbered (stepped s (step c s)).1 cs w q)
-    (Memᴰ.cases_cons m)
-
-pub answers-numbered : (file : List ℕ) (q : ℕ) → Memᴰ (no_line q) (answers file) → Memᴰ q listing_numbers
-answers-numbered file q m = let (cs, w, e) = answers-run file in run-numbered started cs w q (rw e at m)
-
--- 17 is asked on pages alone
-pub no-17 : (file : List ℕ) → Memᴰ (no_line 17) (answers file) → ⊥
-unfolding listing_numbers mem
-no-17 file m = true≢false (sym (mem-has eqb eqb-true eqb_same 17 listing_numbers (answers-numbered file 17 m)))
-
--- a page
-
-ahead-numbered : {qs : List ℕ} (e : Entry) {x : Shown} → PageNumbered qs x → PageNumbered qs (ahead e x)
-unfolding ahead
-ahead-numbered e shown = shown
-ahead-numbered e (PageNumbered.numbered m) = PageNumbered.numbered m
-
-showing-numbered : (n : ℕ) {l : Line} {x : Shown} → Figured l → PageNumbered page_numbers x → PageNumbered page_numbers (showing n l x)
-unfolding showing page_numbers
-showing-numbered n (untagged f) p = PageNumbered.numbered (Memᴰ.head refl)
-showing-numbered n (tagged o f) p = ahead-numbered (record { number = n; offer = o; figure = f }) p
-showing-numbered n (neither q t) p = rw q p
-
-pub page-numbered : (n : ℕ) (ls : List Line) → PageNumbered page_numbers (shown_from n ls)
-unfolding shown_from
-page-numbered n [] = shown
-page-numbered n (l ∷ ls) = showing-numbered n (figured l) (page-numbered (suc n) ls)

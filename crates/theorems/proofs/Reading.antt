@@ -4,9 +4,8 @@ use mathlib.Core.Bool.{Bool, true, false}
 use mathlib.Core.Logic.{⊎_elim}
 use mathlib.Core.List.Memᴰ
 use mathlib.Core.List.{List, [], ◌∷◌, ◌++◌, Memᴰ}
-use Prim.Native.Nat.{ℕ, zero, suc, ◌+◌, ◌≤◌, ◌<◌, zero-le, suc-le-suc}
-use native.Mathlib.Decide.{dec_le}
-use native.Mathlib.Nat.{le_refl, not-suc-le-zero}
+use Prim.Native.Nat.{ℕ, zero, suc, ◌+◌, ◌≤◌, ◌<◌}
+use native.Mathlib.Nat.{le_refl, not-suc-le-zero, zero-add, add-zero, add-suc, suc-add}
 use native.Mathlib.Omega.{arith}
 use lib.Dec.{eqb, leb}
 use lib.ListN.{length, take, length-append, take-append-drop}
@@ -14,9 +13,9 @@ use borrow.Author.Tests.{le-leb, lt-leb}
 use Rattle.model.specs.Lists.{flat, all_at_most}
 use Rattle.model.specs.Res.{Res, ok, refuse, ◌>>=◌, ask}
 use Rattle.model.specs.Command.{Command, opcodes, operand_bytes, command_of, registers_of, parse, parse_up_to, parse_all}
-use Rattle.model.specs.Run.{State, started, Line, no_line, step, stepped, answers_from, longest_file, answers}
-use Rattle.model.specs.Listing.{digits, decimal, spaced, no_word, line_text, line, spelled, lines, listing}
-use Rattle.theorems.specs.Reading.{Parsed, end, malformed, command, last_answer, IsLine, ReadThrough}
+use Rattle.model.specs.Run.{State, started, no_line, step, stepped}
+use Rattle.model.specs.Listing.{digits, decimal, spaced, no_word, line_text, line, lines_from, longest_file, lines, listing}
+use Rattle.theorems.specs.Reading.{Parsed, end, malformed, command, IsLine, last_line, ReadThrough}
 use Rattle.theorems.proofs.Texts.{line-is}
 
 -- What a parse comes to: a command with registers below 16 and the bytes after it, or question 12
@@ -128,59 +127,39 @@ parsed-once end = refl
 parsed-once (malformed {b = b} {w = w} e) = stop b w e
 parsed-once (command {w = w} operands e s p) = rw (unroll w e, parsed-once p)
 
--- Answers: one for each command, then one if bytes are left
+-- Lines: one for each command, then one if bytes are left
 
-each-answer : (s : State) (cs : List Command) → length (answers_from s cs []) ≡ length cs
-unfolding answers_from
-each-answer s [] = refl
-each-answer s (c ∷ cs) = ap suc (each-answer (stepped s (step c s)).1 cs)
+each_line : (n : ℕ) (s : State) (cs : List Command) → length (lines_from n s cs []) ≡ length cs
+unfolding lines_from
+each_line n s [] = refl
+each_line n s (c ∷ cs) = ap suc (each_line (suc n) (stepped s (step c s)).1 cs)
 
-last-answer : (s : State) (cs : List Command) (left : List ℕ) → answers_from s cs left ≡ answers_from s cs [] ++ last_answer left
-unfolding answers_from
-last-answer s [] [] = refl
-last-answer s [] (b ∷ w) = refl
-last-answer s (c ∷ cs) left = rw (last-answer (stepped s (step c s)).1 cs left)
+last_line_lem : (n : ℕ) (s : State) (cs : List Command) (left : List ℕ) → lines_from (suc n) s cs left ≡ lines_from (suc n) s cs [] ++ last_line (n + length cs) left
+unfolding lines_from
+last_line_lem n s [] [] = refl
+last_line_lem n s [] (b ∷ w) = rw (add-zero n)
+last_line_lem n s (c ∷ cs) left = rw (last_line_lem (suc n) (stepped s (step c s)).1 cs left, suc-add, add-suc)
 
-pub within : (file : List ℕ) → length file ≤ longest_file → answers file ≡ answers_from started (parse_all file).0 (parse_all file).1
-unfolding answers
-within file h = rw (le-leb (length file) longest_file h, answers)
+lined : (n : ℕ) (s : State) (cs : List Command) (left : List ℕ) (l : List ℕ) → Memᴰ l (lines_from n s cs left) → IsLine l
+unfolding lines_from
+lined n s [] [] l m = absurd (Memᴰ.not-nil m)
+lined n s [] (b ∷ w) l m = rw (Memᴰ.eq_of_singleton m) (line-is n (no_line 12))
+lined n s (c ∷ cs) left l m = ⊎_elim (λ e. rw e (line-is n (stepped s (step c s)).0)) (lined (suc n) (stepped s (step c s)).1 cs left l) (Memᴰ.cases_cons m)
 
-pub beyond : (file : List ℕ) → longest_file < length file → answers file ≡ no_line 12 ∷ []
-unfolding answers
-beyond file h = rw (lt-leb (length file) longest_file h, answers)
-
--- of a file that is too long they are those of no command and bytes left
-pub answers-run : (file : List ℕ) → (cs : List Command) × (w : List ℕ) × (answers file ≡ answers_from started cs w)
-unfolding answers_from
-answers-run file = go (dec_le (length file) longest_file)
-  where
-    go : Dec (length file ≤ longest_file) → (cs : List Command) × (w : List ℕ) × (answers file ≡ answers_from started cs w)
-    go (yes h) = ((parse_all file).0, (parse_all file).1, within file h)
-    go (no h) = ([], 0 ∷ [], beyond file (omega arith))
-
--- Lines: one for each answer
-
-each_line : (n : ℕ) (ls : List Line) → length (spelled n ls) ≡ length ls
-unfolding spelled
-each_line n [] = refl
-each_line n (l ∷ ls) = ap suc (each_line (suc n) ls)
-
-lined : (n : ℕ) (ls : List Line) (l : List ℕ) → Memᴰ l (spelled n ls) → IsLine l
-unfolding spelled
-lined n [] l m = absurd (Memᴰ.not-nil m)
-lined n (a ∷ ls) l m = ⊎_elim (λ e. rw e (line-is n a)) (lined (suc n) ls l) (Memᴰ.cases_cons m)
+pub within : (file : List ℕ) → length file ≤ longest_file → lines file ≡ lines_from 1 started (parse_all file).0 (parse_all file).1
+unfolding lines
+within file h = rw (le-leb (length file) longest_file h, lines)
 
 pub reads-through : (file : List ℕ) → length file ≤ longest_file → ReadThrough file
-unfolding lines listing parse_all
+unfolding listing parse_all
 reads-through file h = record {
   commands = cs;
   left = left;
   parsed = parsed (length file) file (le_refl (length file));
-  answered = answers_from started cs [];
-  one_each = each-answer started cs;
-  all_answers = within file h ∙ last-answer started cs left;
-  one_line = each_line 1 (answers file);
-  each_is = lined 1 (answers file);
+  answers = lines_from 1 started cs [];
+  one_each = each_line 1 started cs;
+  all_lines = within file h ∙ last_line_lem 0 started cs left ∙ rw zero-add;
+  each_is = rw (within file h) (lined 1 started cs left);
   bytes = refl;
 }
   where
@@ -190,26 +169,11 @@ reads-through file h = record {
     left : List ℕ
     left = (parse_all file).1
 
--- a byte at least for each answer
-
-few-parsed : {w left : List ℕ} {cs : List Command} → Parsed w cs left → length cs + length (last_answer left) ≤ length w
-few-parsed end = zero-le
-few-parsed (malformed e) = suc-le-suc zero-le
-few-parsed (command {rest = rest} operands e s p) = omega (arith, ap length s, length-append operands rest, few-parsed p)
-
-pub few-answers : (file : List ℕ) → length (answers file) ≤ longest_file
-unfolding longest_file
-few-answers file = go (dec_le (length file) longest_file)
-  where
-    go : Dec (length file ≤ longest_file) → length (answers file) ≤ longest_file
-    go (yes h) = let r = reads-through file h in rw (r.all_answers, length-append) (omega (arith, few-parsed r.parsed, r.one_each))
-    go (no h) = rw (beyond file (omega arith)) (suc-le-suc zero-le)
-
 -- `1 no 12` and LF
 pub too_long_lem : (file : List ℕ) → longest_file < length file → listing file ≡ 0x31 ∷ 0x20 ∷ 0x6E ∷ 0x6F ∷ 0x20 ∷ 0x31 ∷ 0x32 ∷ 0x0A ∷ []
-unfolding listing lines spelled flat line line_text decimal digits no_word spaced
-too_long_lem file h = rw (beyond file h)
+unfolding listing lines flat line line_text decimal digits no_word spaced
+too_long_lem file h = rw (lt-leb (length file) longest_file h, lines)
 
 pub empty : listing [] ≡ []
-unfolding listing lines answers longest_file flat parse_all parse_up_to answers_from spelled
+unfolding listing lines longest_file flat parse_all parse_up_to lines_from
 empty = refl

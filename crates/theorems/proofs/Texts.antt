@@ -8,8 +8,8 @@ use lib.Dec.{ltb, eqb}
 use borrow.Author.Tests.{ne_eqb}
 use Rattle.model.specs.Records.{Cell, plain, ref}
 use Rattle.model.specs.Figure.{Figure}
-use Rattle.model.specs.Run.{Line, new_line, alloc_line, set_line, load_line, store_line, report_line, figure_line, offer_line, no_line}
-use Rattle.model.specs.Listing.{digits, decimal, signed, spaced, figure_text, cell_text, new_word, alloc_word, set_word, load_word, store_word, report_word, figure_word, offer_word, no_word, line_text, line}
+use Rattle.model.specs.Run.{Line, new_line, alloc_line, set_line, load_line, store_line, report_line, figure_line, no_line}
+use Rattle.model.specs.Listing.{digits, decimal, signed, spaced, figure_text, cell_text, new_word, alloc_word, set_word, load_word, store_word, report_word, figure_word, no_word, line_text, line}
 use Rattle.theorems.specs.Reading.{no_lf, IsLine}
 
 no_lf-join : (v w : List ℕ) → no_lf (v ++ w) ≡ (no_lf v && no_lf w)
@@ -65,15 +65,14 @@ cell-text (plain k v) = spaced-text (k ∷ 0 ∷ v ∷ 0 ∷ [])
 cell-text (ref p) = spaced-text (5 ∷ p.heap ∷ p.base ∷ p.off ∷ [])
 
 pub line-text : (l : Line) → no_lf (line_text l) ≡ true
-unfolding line_text new_word alloc_word set_word load_word store_word report_word figure_word offer_word no_word no_lf
+unfolding line_text new_word alloc_word set_word load_word store_word report_word figure_word no_word no_lf
 line-text new_line = refl
 line-text (alloc_line p counts) = simp (no_lf-join, signed-text, spaced-text)
 line-text set_line = refl
 line-text (load_line c) = cell-text c
 line-text store_line = refl
 line-text (report_line numbers) = spaced-text numbers
-line-text (figure_line tag f) = figure-text f
-line-text offer_line = refl
+line-text (figure_line f) = figure-text f
 line-text (no_line q) = spaced-text (q ∷ [])
 
 pub line-is : (n : ℕ) (l : Line) → IsLine (line n l)

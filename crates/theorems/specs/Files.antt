@@ -1,5 +1,5 @@
 -- Demand 3 for command files: the heap calls of a run, from its `new` to its first report.
-use Rattle.std.specs.Prelude.{◌≡◌, true, ◌⊎◌, ℕ, length, set as put}
+use Rattle.std.specs.Prelude.{◌≡◌, true, ◌⊎◌, ℕ, suc, ◌+◌, length, set as put}
 use mathlib.Core.List.{List, [], ◌∷◌, ◌++◌, Memᴰ}
 use Rattle.std.proofs.Math.Option.{Option, none, some}
 use Rattle.model.specs.Res.{Res, ok, refuse, ◌>>=◌}
@@ -7,8 +7,9 @@ use Rattle.model.specs.Records.{Ptr, Cell, ref, cell_words, all_valid}
 use Rattle.model.specs.Heap.{Sizes, fresh}
 use Rattle.model.specs.Image.{encode, decode}
 use Rattle.model.specs.Calls.{cells_in, Outcome, Call, allocs, reads, writes, call}
-use Rattle.model.specs.Command.{Command, new, alloc, set, load, store, report, figure, offer, parse_all}
-use Rattle.model.specs.Run.{State, started, holding, register, Line, new_line, alloc_line, load_line, store_line, no_line, program_bounds, the_heap, pointer_in, added, step, stepped, answers_from, answers}
+use Rattle.model.specs.Command.{Command, new, alloc, set, load, store, report, figure, parse_all}
+use Rattle.model.specs.Run.{State, started, holding, register, Line, new_line, alloc_line, load_line, store_line, no_line, program_bounds, the_heap, pointer_in, added, step, stepped}
+use Rattle.model.specs.Listing.{line, lines_from, lines}
 use Rattle.model.specs.Demand.{History, Demand}
 use Rattle.theorems.specs.Program.{program_scratch}
 use Rattle.theorems.specs.Doors.{AllFormed}
@@ -28,7 +29,6 @@ call_of (load r p d) s = call_if (the_heap s >>= λ _. pointer_in (register s p)
 call_of (store r p d) s = call_if (the_heap s >>= λ _. pointer_in (register s p) >>= λ x. added x d >>= λ y. ok (writes y (cell_words (register s r ∷ []))))
 call_of report s = none
 call_of (figure r) s = none
-call_of (offer k) s = none
 
 -- a command's answer and the state after it, read off what its call answered and left
 pub data ReadOff (s : State) (o : Outcome) : Command → Line → State → Type 0 where
@@ -89,6 +89,11 @@ abbrev pub Heapless : State → List Command → Type 0
 Heapless s [] = s.heap ≡ none
 Heapless s (c ∷ cs) = (s.heap ≡ none) × (call_of c s ≡ none) × Heapless (stepped s (step c s)).1 cs
 
+-- answers as lines, numbered from n
+unfoldable pub spelled : ℕ → List Line → List (List ℕ)
+spelled n [] = []
+spelled n (a ∷ ls) = line n a ∷ spelled (suc n) ls
+
 -- commands before a heap, its `new`, commands up to the first report, and what is left
 pub record ServedFile (file : List ℕ) : Type 0 where
   pub before : List Command
@@ -101,4 +106,6 @@ pub record ServedFile (file : List ℕ) : Type 0 where
   pub no_report : NoReport commands
   pub then_report : (rest ≡ []) ⊎ ((cs : List Command) × (rest ≡ report ∷ cs))
   pub served : Served (state_after started before) sizes commands
-  pub answered : answers file ≡ answers_from started before [] ++ new_line ∷ served.answers ++ answers_from served.last rest (parse_all file).1
+  pub printed : lines file
+      ≡ lines_from 1 started before [] ++ line (suc (length before)) new_line ∷ spelled (suc (suc (length before))) served.answers
+      ++ lines_from (suc (suc (length before)) + length commands) served.last rest (parse_all file).1

@@ -9,4 +9,3 @@ pub mod Numbered
 pub mod Program
 pub mod Doors
 pub mod Files
-pub mod Pages

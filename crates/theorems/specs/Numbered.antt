@@ -1,10 +1,9 @@
--- Every refusal has a number of document 01 or 02: each kind of call and command has its own, and so have listing and page.
+-- Every refusal has a number of document 01: each kind of call and command has its own.
 use mathlib.Core.List.{List, [], ◌∷◌, Memᴰ}
 use Rattle.std.specs.Prelude.{ℕ}
 use Rattle.model.specs.Res.{Res, ok, refuse}
 use Rattle.model.specs.Calls.{Call, allocs, reads, writes}
-use Rattle.model.specs.Command.{Command, new, alloc, set, load, store, report, figure, offer}
-use Rattle.model.specs.Pages.{Entry, Shown, entries, refused}
+use Rattle.model.specs.Command.{Command, new, alloc, set, load, store, report, figure}
 
 -- it is answered, or refused by one of these questions
 pub data Numbered (qs : List ℕ) {A : Type 0} : Res A → Type 0 where
@@ -48,17 +47,3 @@ command_numbers (load r p d) = 14 ∷ 13 ∷ read_questions
 command_numbers (store r p d) = 14 ∷ 13 ∷ write_questions
 command_numbers report = 14 ∷ report_questions
 command_numbers (figure r) = 15 ∷ []
-command_numbers (offer k) = 16 ∷ 18 ∷ []
-
--- all that a listing shows; 12 is for what is malformed, 2 and 4 are asked in calls alone
-unfoldable pub listing_numbers : List ℕ
-listing_numbers = 1 ∷ 3 ∷ 5 ∷ 6 ∷ 7 ∷ 8 ∷ 9 ∷ 10 ∷ 11 ∷ 12 ∷ 13 ∷ 14 ∷ 15 ∷ 16 ∷ 18 ∷ []
-
--- a page has entries, or is refused by one of these questions
-
-unfoldable pub page_numbers : List ℕ
-page_numbers = 17 ∷ []
-
-pub data PageNumbered (qs : List ℕ) : Shown → Type 0 where
-  shown : {es : List Entry} → PageNumbered qs (entries es)
-  numbered : {n q : ℕ} → Memᴰ q qs → PageNumbered qs (refused n q)

@@ -12,7 +12,6 @@ pub enum Command {
     Store { from: usize, pointer: usize, added: i64 },
     Report,
     Figure { of: usize },
-    Offer { number: u32 },
 }
 
 pub struct Reader<'a> {
@@ -44,7 +43,6 @@ impl<'a> Reader<'a> {
             0x53 => Command::Store { from: self.register()?, pointer: self.register()?, added: self.i64()? },
             0x52 => Command::Report,
             0x46 => Command::Figure { of: self.register()? },
-            0x4F => Command::Offer { number: self.bytes().map(u32::from_le_bytes)? },
             _ => return None,
         })
     }

@@ -1,16 +1,13 @@
-//! Runs command files through the published Rust collector and prints their listings, or pages of the offers board.
+//! Runs command files through the published Rust collector and prints their listings.
 //!
 //! `oracle < FILE` prints one listing. `oracle --batch` takes many files and writes their listings, each after its
-//! length as four bytes, little-endian. `oracle --events` takes the same and prints what the files reached. With
-//! `--page grower` or `--page supplier` behind it a page is printed in place of each listing.
+//! length as four bytes, little-endian. `oracle --events` takes the same and prints what the files reached.
 
 mod command;
 mod figure;
-mod pages;
 mod session;
 mod value;
 
-use session::{Answer, Refusal};
 use std::io::{self, BufReader, BufWriter, Read, Write};
 
 fn main() -> io::Result<()> {
@@ -22,36 +19,29 @@ fn main() -> io::Result<()> {
     }));
     let mut input = BufReader::new(io::stdin().lock());
     let mut output = BufWriter::new(io::stdout().lock());
-    let words: Vec<String> = std::env::args().skip(1).collect();
-    let words: Vec<&str> = words.iter().map(String::as_str).collect();
-    let (mode, printed): (_, fn(&[Result<Answer, Refusal>]) -> String) = match &words[..] {
-        [mode @ .., "--page", "grower"] => (mode, pages::grower),
-        [mode @ .., "--page", "supplier"] => (mode, pages::supplier),
-        mode => (mode, session::listing),
-    };
-    match mode {
-        [] => {
+    match std::env::args().nth(1).as_deref() {
+        None => {
             let mut file = Vec::new();
             input.read_to_end(&mut file)?;
-            output.write_all(printed(&session::run(&file)).as_bytes())?;
+            output.write_all(session::listing(&file).as_bytes())?;
         }
-        ["--batch"] => {
+        Some("--batch") => {
             while let Some(file) = next_file(&mut input)? {
-                let text = printed(&session::run(&file));
-                output.write_all(&(text.len() as u32).to_le_bytes())?;
-                output.write_all(text.as_bytes())?;
+                let listing = session::listing(&file);
+                output.write_all(&(listing.len() as u32).to_le_bytes())?;
+                output.write_all(listing.as_bytes())?;
             }
         }
-        ["--events"] => {
+        Some("--events") => {
             while let Some(file) = next_file(&mut input)? {
-                session::run(&file);
+                session::listing(&file);
             }
             for (event, count) in gc::hooks::events() {
                 writeln!(output, "{count} {event}")?;
             }
         }
-        other => {
-            eprintln!("oracle: {} is not known; see README.md", other.join(" "));
+        Some(other) => {
+            eprintln!("oracle: {other} is not known; see README.md");
             std::process::exit(2);
         }
     }

@@ -1,55 +1,43 @@
-//! One run of a command file: sixteen registers over the published collector, and the offers named; an answer to each command.
+//! One run of a command file: sixteen registers over the published collector, a line for each command.
 
 use crate::command::{Command, Reader, LONGEST_FILE, REGISTERS};
 use crate::{figure, value};
 use gc::hooks::{self, answered, Limits};
 use gc::{Collector, MemoryManager, Pointer, Value};
-use std::collections::BTreeSet;
 
 /// The number of the first question that got a no.
-pub type Refusal = u8;
+type Refusal = u8;
 
 const MALFORMED: Refusal = 12;
 const MOST_NURSERY: u16 = 128;
 const MOST_THRESHOLD: u16 = 8192;
 const MOST_SLOTS: u16 = 128;
 const MOST_CELLS: u16 = 512;
-const MOST_OFFER: u32 = 999_999;
-const MOST_OFFERS: usize = 64;
 
-/// What a command that is not refused is answered.
-pub enum Answer {
-    /// A figure, and the offer that tags it.
-    Figure { text: String, offer: Option<u32> },
-    Other(String),
-}
-
-/// A file's answers, up to the end, the first 12, or the first call in which the published collector panicked.
-pub fn run(file: &[u8]) -> Vec<Result<Answer, Refusal>> {
+/// The lines of a file, up to the end, the first 12, or the first call in which the published collector panicked.
+pub fn listing(file: &[u8]) -> String {
     if file.len() > LONGEST_FILE {
-        return vec![Err(MALFORMED)];
+        return line(1, Err(MALFORMED));
     }
     let mut session = Session::default();
     let mut reader = Reader::new(file);
-    let mut answers = Vec::new();
+    let mut lines = String::new();
+    let mut number = 0;
     while !reader.at_end() {
-        answers.push(reader.next().ok_or(MALFORMED).and_then(|command| session.run(command)));
-        if let Some(Err(6 | 9 | 10 | MALFORMED)) = answers.last() {
+        number += 1;
+        let answer = reader.next().ok_or(MALFORMED).and_then(|command| session.run(command));
+        let ended = matches!(answer, Err(6 | 9 | 10 | MALFORMED));
+        lines += &line(number, answer);
+        if ended {
             break;
         }
     }
-    answers
+    lines
 }
 
-/// A line for each answer.
-pub fn listing(answers: &[Result<Answer, Refusal>]) -> String {
-    (1..).zip(answers).map(|(number, answer)| line(number, answer)).collect()
-}
-
-fn line(number: usize, answer: &Result<Answer, Refusal>) -> String {
+fn line(number: usize, answer: Result<String, Refusal>) -> String {
     match answer {
-        Ok(Answer::Figure { text, .. }) => format!("{number} figure {text}\n"),
-        Ok(Answer::Other(text)) => format!("{number} {text}\n"),
+        Ok(text) => format!("{number} {text}\n"),
         Err(question) => format!("{number} no {question}\n"),
     }
 }
@@ -63,27 +51,25 @@ struct Heap {
 struct Session {
     heap: Option<Heap>,
     registers: [Value; REGISTERS],
-    offers: BTreeSet<u32>,
-    /// The offer of later figures.
-    tag: Option<u32>,
 }
 
 impl Session {
-    fn run(&mut self, command: Command) -> Result<Answer, Refusal> {
-        let text = match command {
-            Command::New { nursery, threshold, slots, cells } => self.new_heap(nursery, threshold, slots, cells)?,
-            Command::Alloc { to, amount } => self.alloc(to, amount)?,
+    fn run(&mut self, command: Command) -> Result<String, Refusal> {
+        match command {
+            Command::New { nursery, threshold, slots, cells } => self.new_heap(nursery, threshold, slots, cells),
+            Command::Alloc { to, amount } => self.alloc(to, amount),
             Command::Set { to, value } => {
                 self.registers[to] = value::from_bytes(&value).ok_or(3)?;
-                "set".into()
+                Ok("set".into())
             }
-            Command::Load { to, pointer, added } => self.load(to, pointer, added)?,
-            Command::Store { from, pointer, added } => self.store(from, pointer, added)?,
-            Command::Report => self.report()?,
-            Command::Figure { of } => return self.figure(of),
-            Command::Offer { number } => self.offer(number)?,
-        };
-        Ok(Answer::Other(text))
+            Command::Load { to, pointer, added } => self.load(to, pointer, added),
+            Command::Store { from, pointer, added } => self.store(from, pointer, added),
+            Command::Report => self.report(),
+            Command::Figure { of } => match self.registers[of] {
+                Value::Float(number) => Ok(format!("figure {}", figure::figure(number).ok_or(15)?)),
+                _ => Err(15),
+            },
+        }
     }
 
     fn new_heap(&mut self, nursery: u16, threshold: u16, slots: u16, cells: u16) -> Result<String, Refusal> {
@@ -153,23 +139,6 @@ impl Session {
             usize::from(stats.memory_leak),
         ];
         Ok(format!("report {}", fields.map(|field| field.to_string()).join(" ")))
-    }
-
-    fn figure(&self, of: usize) -> Result<Answer, Refusal> {
-        let Value::Float(number) = self.registers[of] else { return Err(15) };
-        Ok(Answer::Figure { text: figure::figure(number).ok_or(15)?, offer: self.tag })
-    }
-
-    fn offer(&mut self, number: u32) -> Result<String, Refusal> {
-        if number == 0 || number > MOST_OFFER {
-            return Err(16);
-        }
-        if self.offers.len() == MOST_OFFERS && !self.offers.contains(&number) {
-            return Err(18);
-        }
-        self.offers.insert(number);
-        self.tag = Some(number);
-        Ok("offer".into())
     }
 }
 

@@ -17,7 +17,7 @@ refused-requires : tie.Need-refused-requires
 refused-requires c κs = search rules
 
 returns : tie.Need-returns
-returns c offers =
+returns c =
     let s = c.before.before.before.before in
     alloc-heapless s.args.register _ s.requires.0 s.requires.1.1.1 c.before.if1.true c.refused.ensures
 
@@ -56,13 +56,13 @@ same-length-2 : tie.Need-same-length-2
 same-length-2 c = search rules
 
 returns-2 : tie.Need-returns-2
-returns-2 c offers =
+returns-2 c =
     let w = c.before.before.before.before.before.before.before.before.before.before.before.before.before.before.before in
     let s = w.before.before.before.before in
     let asked = rw (to_z-of_z w64 s.args.amount s.ranges.amount) at c.before.before.before.before.before.before.before.before.before.before.before.alloc-formed.ensures in
     let at = c.before.before.before.before.a.given.1 in
     -- the walk tells of the answer's fields that the offset is an i64
-    alloc-acts (lent w) _ _ _ _ asked at offers c.before.from-words.result c.set.result _ c.before.from-words.ensures.0 c.before.from-words.ensures.1 (record { sfits = c.before.before.before.known-told.given.0.1.1.0.1.1.1.1.0.1 }) c.set.ensures
+    alloc-acts (lent w) _ _ _ _ asked at c.before.from-words.result c.set.result _ c.before.from-words.ensures.0 c.before.from-words.ensures.1 (record { sfits = c.before.before.before.known-told.given.0.1.1.0.1.1.1.1.0.1 }) c.set.ensures
 
 same-length-3 : tie.Need-same-length-3
 same-length-3 c = search rules
@@ -71,11 +71,11 @@ same-length-4 : tie.Need-same-length-4
 same-length-4 c = search rules
 
 returns-3 : tie.Need-returns-3
-returns-3 c offers =
+returns-3 c =
     let w = c.before.before.before.before.before.before.before.before.before.before.before.before.before in
     let s = w.before.before.before.before in
     let asked = rw (to_z-of_z w64 s.args.amount s.ranges.amount) at c.before.before.before.before.before.before.before.before.before.alloc-formed.ensures in
-    alloc-refused (lent w) _ _ _ _ asked offers _ c.before.before.q.given.1 c.refused2.ensures
+    alloc-refused (lent w) _ _ _ _ asked _ c.before.before.q.given.1 c.refused2.ensures
 
 pub alloc-in-spec : {M : Type 1} → statement M
 alloc-in-spec =

@@ -25,9 +25,9 @@ refused-requires : tie.Need-refused-requires
 refused-requires c κs = search rules
 
 returns : tie.Need-returns
-returns c offers =
+returns c =
     let s = c.before.before.before in
-    load-heapless offers _ _ _ s.requires.0 s.requires.1.2 (omega arith) c.refused.ensures
+    load-heapless _ _ _ s.requires.0 s.requires.1.2 (omega arith) c.refused.ensures
 
 get-requires : tie.Need-get-requires
 get-requires c κs = search rules
@@ -60,26 +60,26 @@ refused-requires-3 : tie.Need-refused-requires-3
 refused-requires-3 c κs = search rules
 
 returns-2 : tie.Need-returns-2
-returns-2 c offers =
+returns-2 c =
     let r = c.before.before.before.before in
     let p = r.before.before in
     let t = p.before.before in
     let s = start t in
-    load-done offers _ _ _ s.pre.0 s.pre.1.2 (there t) t.before.get.result t.before.get.ensures t.target-of.result (aim t) p.p.given.1 r.read-formed.result r.read-formed.ensures c.before.before.v.given.1 c.loaded.ensures
+    load-done _ _ _ s.pre.0 s.pre.1.2 (there t) t.before.get.result t.before.get.ensures t.target-of.result (aim t) p.p.given.1 r.read-formed.result r.read-formed.ensures c.before.before.v.given.1 c.loaded.ensures
 
 returns-3 : tie.Need-returns-3
-returns-3 c offers =
+returns-3 c =
     let r = c.before.before.before.before in
     let p = r.before.before in
     let t = p.before.before in
     let s = start t in
-    load-refused offers _ _ _ s.pre.0 s.pre.1.2 (there t) t.before.get.result t.before.get.ensures t.target-of.result (aim t) p.p.given.1 r.read-formed.result r.read-formed.ensures c.before.before.q.given.1 c.refused2.ensures
+    load-refused _ _ _ s.pre.0 s.pre.1.2 (there t) t.before.get.result t.before.get.ensures t.target-of.result (aim t) p.p.given.1 r.read-formed.result r.read-formed.ensures c.before.before.q.given.1 c.refused2.ensures
 
 returns-4 : tie.Need-returns-4
-returns-4 c offers =
+returns-4 c =
     let t = c.before.before.before.before in
     let s = start t in
-    load-nowhere offers _ _ _ s.pre.0 s.pre.1.2 (there t) t.before.get.result t.before.get.ensures t.target-of.result (aim t) c.before.before.q2.given.1 c.refused3.ensures
+    load-nowhere _ _ _ s.pre.0 s.pre.1.2 (there t) t.before.get.result t.before.get.ensures t.target-of.result (aim t) c.before.before.q2.given.1 c.refused3.ensures
 
 pub load_in_spec : {M : Type 1} → statement M
 load_in_spec =

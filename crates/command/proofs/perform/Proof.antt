@@ -1,26 +1,14 @@
-use mathlib.Core.Path.{refl, sym, ◌∙◌}
+use mathlib.Core.Path.{sym, ◌∙◌}
 use mathlib.Core.Logic.{⊎_elim}
 use lib.Seq.{length-take-le}
 use Rattle.command.proofs.Making.{performs-front}
-use Rattle.command.proofs.Performing.{not_new, no-offer, heap-lent, left_as, heapless-performs}
+use Rattle.command.proofs.Performing.{not_new, heap-lent, left_as, heapless-performs}
 use borrow.Author.Rules.{rules}
 use Rattle.command.proofs.perform.Statement.{statement}
 use Rattle.command.proofs.perform.Tie as tie
 
 enum-known-command : tie.Need-enum-known-command
 enum-known-command c = search rules
-
-name-offer-requires : tie.Need-name-offer-requires
-name-offer-requires c κs = c.before.before.before.before.before.before.before.requires.0.few
-
-returns : tie.Need-returns
-returns c =
-    let offer = c.before.before in
-    let s = offer.before.before.before.before.before.before in
-    rw offer.command.given.1 (c.name-offer.ensures s.args.buffer.now s.requires.0)
-
-enum-known-command-2 : tie.Need-enum-known-command-2
-enum-known-command-2 c = search rules
 
 cast-make : tie.Need-overflow-cast-make
 cast-make c = search rules
@@ -43,33 +31,31 @@ leave-requires c κs = search rules
 same_length : tie.Need-same-length
 same_length c = search rules
 
-returns-2 : tie.Need-returns-2
-returns-2 c =
+returns : tie.Need-returns
+returns c =
     let made = c.before.before.before in
     let new = made.before.before.before in
     let first = new.before.before in
-    let s = first.before.before.before.before.before.before in
-    rw new.command2.given.1
-    (left_as c.leave.ensures (heapless-performs first.if1.true (made.make.ensures s.args.state.registers s.args.state.offers s.requires.0.good s.requires.0.few)))
+    let s = first.before.before.before.before in
+    rw new.command.given.1
+    (left_as c.leave.ensures (heapless-performs first.if1.true (made.make.ensures s.args.state.registers s.requires.0.good)))
 
 slice-relend-prefix-act : tie.Need-slice-relend-prefix-act
 slice-relend-prefix-act c = search rules
 
 slice-aggregate-act : tie.Need-slice-aggregate-act
-slice-aggregate-act c = sym (length-take-le _ _ c.before.before.before.before.before.before.before.requires.0.within)
+slice-aggregate-act c = sym (length-take-le _ _ c.before.before.before.before.before.requires.0.within)
 
 act-requires : tie.Need-act-requires
 act-requires c κs =
-    let s = c.before.before.before.before.before.before.before.before in (
+    let s = c.before.before.before.before.before.before in (
       (s.requires.0.held, s.requires.0.good),
       (
         s.requires.1.0.1,
         (
           s.requires.1.1,
-          (
-            λ e. ⊎_elim (λ n. absurd (not_new s.args.command n.1.keys2 e)) (λ n. heap-lent s.args.state.words s.args.buffer.now s.requires.0.within n.left) c.before.before.if1.branch,
-            no-offer s.args.command c.before.before.before.match.keys2,
-          ),
+          λ e.
+              ⊎_elim (λ n. absurd (not_new s.args.command n.1.keys2 e)) (λ n. heap-lent s.args.state.words s.args.buffer.now s.requires.0.within n.left) c.before.before.if1.branch,
         ),
       ),
     )
@@ -83,21 +69,18 @@ same-length-2 c = search rules
 same-length-3 : tie.Need-same-length-3
 same-length-3 c = search rules
 
-returns-3 : tie.Need-returns-3
-returns-3 c =
-    let s = c.before.before.before.before.before.before.before.before.before.before.before.before.before.before in
+returns-2 : tie.Need-returns-2
+returns-2 c =
+    let s = c.before.before.before.before.before.before.before.before.before.before.before.before in
     let a = c.before.before.before.before.before.act in
     left_as c.leave2.ensures
-    (performs-front s.args.buffer.now s.args.state s.requires.0.within (a.auto.0 ∙ length-take-le _ _ s.requires.0.within) s.requires.0.few (a.ensures s.args.state.offers refl))
+    (performs-front s.args.buffer.now s.args.state s.requires.0.within (a.auto.0 ∙ length-take-le _ _ s.requires.0.within) a.ensures)
 
 pub perform-spec : {M : Type 1} → statement M
 perform-spec =
     tie.close
     (tie.spec
     enum-known-command
-    name-offer-requires
-    returns
-    enum-known-command-2
     cast-make
     cast-make-2
     cast-make-3
@@ -105,11 +88,11 @@ perform-spec =
     make-requires
     leave-requires
     same_length
-    returns-2
+    returns
     slice-relend-prefix-act
     slice-aggregate-act
     act-requires
     leave-requires-2
     same-length-2
     same-length-3
-    returns-3)
+    returns-2)

@@ -8,7 +8,7 @@ refused-requires : tie.Need-refused-requires
 refused-requires c κs = search rules
 
 returns : tie.Need-returns
-returns c offers = let s = c.before.before.before in report-heapless s.requires.0 s.requires.1 c.before.if1.true c.refused.ensures
+returns c = let s = c.before.before.before in report-heapless s.requires.0 s.requires.1 c.before.if1.true c.refused.ensures
 
 report-lent-formed-requires : tie.Need-report-lent-formed-requires
 report-lent-formed-requires c κs = c.before.before.before.requires.0.formed (omega (arith, c.before.if1.false))
@@ -26,17 +26,17 @@ same_length : tie.Need-same-length
 same_length c = search rules
 
 returns-2 : tie.Need-returns-2
-returns-2 c offers =
+returns-2 c =
     let s = c.before.before.before.before.before.before.before.before.before in
-    report-acts s.requires.0 (omega (arith, c.before.before.before.before.before.before.before.if1.false)) s.requires.1 offers _ _ c.before.before.before.before.before.report-lent-formed.ensures c.before.s.given.1
+    report-acts s.requires.0 (omega (arith, c.before.before.before.before.before.before.before.if1.false)) s.requires.1 _ _ c.before.before.before.before.before.report-lent-formed.ensures c.before.s.given.1
 
 same-length-2 : tie.Need-same-length-2
 same-length-2 c = search rules
 
 returns-3 : tie.Need-returns-3
-returns-3 c offers =
+returns-3 c =
     let s = c.before.before.before.before.before.before.before.before.before.before in
-    report-refused s.requires.0 (omega (arith, c.before.before.before.before.before.before.before.before.if1.false)) s.requires.1 offers _ _ c.before.before.before.before.before.before.report-lent-formed.ensures c.before.before.q.given.1 c.refused2.ensures
+    report-refused s.requires.0 (omega (arith, c.before.before.before.before.before.before.before.before.if1.false)) s.requires.1 _ _ c.before.before.before.before.before.before.report-lent-formed.ensures c.before.before.q.given.1 c.refused2.ensures
 
 pub report-in-spec : {M : Type 1} → statement M
 report-in-spec =

@@ -12,7 +12,7 @@ refused-requires : tie.Need-refused-requires
 refused-requires c κs = search rules
 
 returns : tie.Need-returns
-returns c w offers h = set-refused h c.before.before.before.requires.1 (sym c.before.before.is-valid.ensures ∙ not-true _ c.before.if1.true) c.refused.ensures
+returns c w h = set-refused h c.before.before.before.requires.1 (sym c.before.before.is-valid.ensures ∙ not-true _ c.before.if1.true) c.refused.ensures
 
 value-of-requires : tie.Need-value-of-requires
 value-of-requires c κs = sym c.before.is-valid.ensures ∙ not-false _ c.if1.false
@@ -21,7 +21,7 @@ set-requires : tie.Need-set-requires
 set-requires c κs = search rules
 
 returns-2 : tie.Need-returns-2
-returns-2 c w offers h =
+returns-2 c w h =
     let v = c.before.before.before in
     set-done h v.before.requires.1 c.before.value_of_lem.result (sym v.is-valid.ensures ∙ not-false _ c.before.before.if1.false) c.before.value_of_lem.ensures c.set.ensures
 

@@ -25,9 +25,9 @@ refused-requires : tie.Need-refused-requires
 refused-requires c κs = search rules
 
 returns : tie.Need-returns
-returns c offers =
+returns c =
     let s = c.before.before.before in
-    store-heapless offers _ _ _ s.requires.0 s.requires.1.2 (omega arith) c.refused.ensures
+    store-heapless _ _ _ s.requires.0 s.requires.1.2 (omega arith) c.refused.ensures
 
 get-requires : tie.Need-get-requires
 get-requires c κs = search rules
@@ -69,32 +69,32 @@ same_length : tie.Need-same-length
 same_length c = search rules
 
 returns-2 : tie.Need-returns-2
-returns-2 c offers =
+returns-2 c =
     let r = c.before.before.before.before in
     let p = r.before.before.before.before in
     let t = p.before.before in
     let s = start t in
     let u = t.before.before.before.get in
-    store-done offers _ _ _ s.pre.0 s.pre.1.2 (there t) t.before.get2.result t.before.get2.ensures t.target-of.result (aim t) u.result u.ensures p.p.given.1 t.before.before.encode.ensures r.write-formed.result _ r.write-formed.ensures c.enum_told.given.1
+    store-done _ _ _ s.pre.0 s.pre.1.2 (there t) t.before.get2.result t.before.get2.ensures t.target-of.result (aim t) u.result u.ensures p.p.given.1 t.before.before.encode.ensures r.write-formed.result _ r.write-formed.ensures c.enum_told.given.1
 
 same-length-2 : tie.Need-same-length-2
 same-length-2 c = search rules
 
 returns-3 : tie.Need-returns-3
-returns-3 c offers =
+returns-3 c =
     let r = c.before.before.before.before.before.before in
     let p = r.before.before.before.before in
     let t = p.before.before in
     let s = start t in
     let u = t.before.before.before.get in
-    store-refused offers _ _ _ s.pre.0 s.pre.1.2 (there t) t.before.get2.result t.before.get2.ensures t.target-of.result (aim t) u.result u.ensures p.p.given.1 t.before.before.encode.ensures r.write-formed.result _ r.write-formed.ensures c.before.before.q.given.1 c.refused2.ensures
+    store-refused _ _ _ s.pre.0 s.pre.1.2 (there t) t.before.get2.result t.before.get2.ensures t.target-of.result (aim t) u.result u.ensures p.p.given.1 t.before.before.encode.ensures r.write-formed.result _ r.write-formed.ensures c.before.before.q.given.1 c.refused2.ensures
 
 returns-4 : tie.Need-returns-4
-returns-4 c offers =
+returns-4 c =
     let t = c.before.before.before.before in
     let s = start t in
     let u = t.before.before.before.get in
-    store-nowhere offers _ _ _ s.pre.0 s.pre.1.2 (there t) t.before.get2.result t.before.get2.ensures t.target-of.result (aim t) u.result u.ensures c.before.before.q2.given.1 c.refused3.ensures
+    store-nowhere _ _ _ s.pre.0 s.pre.1.2 (there t) t.before.get2.result t.before.get2.ensures t.target-of.result (aim t) u.result u.ensures c.before.before.q2.given.1 c.refused3.ensures
 
 pub store-in-spec : {M : Type 1} → statement M
 store-in-spec =

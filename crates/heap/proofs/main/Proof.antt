@@ -1,16 +1,16 @@
+use Rattle.heap.proofs.Printing.{taken}
 use native.Mathlib.Omega.{arith}
-use Rattle.runs.proofs.Printing.{taken}
+use lib.Seq.{length-take-le}
+use Rattle.model.specs.Listing.{longest_file}
 use borrow.Author.Rules.{rules}
 use Rattle.heap.proofs.main.Statement.{statement}
 use Rattle.heap.proofs.main.Tie as tie
-
-file-requires : tie.Need-file-requires
-file-requires c κs = search rules
 
 slice-aggregate-read-all : tie.Need-slice-aggregate-read-all
 slice-aggregate-read-all c = search rules
 
 read-all-requires : tie.Need-read-all-requires
+unfolding longest_file
 read-all-requires c κs = search rules
 
 slice-aggregate-fail : tie.Need-slice-aggregate-fail
@@ -29,7 +29,8 @@ slice-aggregate-print-all : tie.Need-slice-aggregate-print-all
 slice-aggregate-print-all c = search (taken, rules)
 
 print-all-requires : tie.Need-print-all-requires
-print-all-requires c κs = let call = c.before.before.before.before.read_all in omega (arith, taken call.result.len call.new.0 call.ensures.within)
+unfolding longest_file
+print-all-requires c κs = let call = c.before.before.before.before.read_all in omega (arith, call.ensures.within, call.auto.0, length-take-le call.result.len call.new.0 call.ensures.within)
 
 slice-aggregate-fail-2 : tie.Need-slice-aggregate-fail-2
 slice-aggregate-fail-2 c = search rules
@@ -47,7 +48,6 @@ pub main_spec : {M : Type 1} → statement M
 main_spec =
     tie.close
     (tie.spec
-    file-requires
     slice-aggregate-read-all
     read-all-requires
     slice-aggregate-fail

@@ -1,5 +1,5 @@
 use borrow.Author.Rules.{rules}
-use Rattle.model.specs.Listing.{figure_word}
+use Rattle.model.specs.Listing.{figure_word, line_text}
 use Rattle.figure.proofs.Writes.{wrote-both}
 use Rattle.lines.proofs.figure_text.Statement.{statement}
 use Rattle.lines.proofs.figure_text.Tie as tie
@@ -20,7 +20,7 @@ same_length : tie.Need-same-length
 same_length c = search rules
 
 returns : tie.Need-returns
-unfolding figure_word
+unfolding line_text figure_word
 returns c =
     let number = c.before.before in
     let space = number.before.before.before.before in

@@ -1,5 +1,5 @@
 use borrow.Author.Rules.{rules}
-use Rattle.model.specs.Listing.{new_word, set_word, store_word, offer_word, line_text}
+use Rattle.model.specs.Listing.{new_word, set_word, store_word, line_text}
 use Rattle.lines.proofs.text.Statement.{statement}
 use Rattle.lines.proofs.text.Tie as tie
 
@@ -54,15 +54,6 @@ enum-known-answer-4 c = search rules
 figure-text-requires : tie.Need-figure-text-requires
 figure-text-requires c κs = search rules
 
-enum-told-4 : tie.Need-enum-told-4
-enum-told-4 c = search rules
-
-slice-aggregate-word-4 : tie.Need-slice-aggregate-word-4
-slice-aggregate-word-4 c = search rules
-
-word-requires-4 : tie.Need-word-requires-4
-word-requires-4 c κs = search rules
-
 enum-known-answer-5 : tie.Need-enum-known-answer-5
 enum-known-answer-5 c = search rules
 
@@ -112,21 +103,13 @@ same-length-7 : tie.Need-same-length-7
 same-length-7 c = search rules
 
 returns-7 : tie.Need-returns-7
-unfolding line_text
 returns-7 c = rw c.before.before.before.before.before.answer4.given.1 c.before.before.figure-text.ensures
 
 same-length-8 : tie.Need-same-length-8
 same-length-8 c = search rules
 
 returns-8 : tie.Need-returns-8
-unfolding line_text offer_word
-returns-8 c = rw c.before.before.before.before.before.enum-told4.given.1 c.before.before.word4.ensures
-
-same-length-9 : tie.Need-same-length-9
-same-length-9 c = search rules
-
-returns-9 : tie.Need-returns-9
-returns-9 c = rw c.before.before.before.before.before.answer5.given.1 c.before.before.refusal-text.ensures
+returns-8 c = rw c.before.before.before.before.before.answer5.given.1 c.before.before.refusal-text.ensures
 
 pub text-spec : {M : Type 1} → statement M
 text-spec =
@@ -149,9 +132,6 @@ text-spec =
     report-text-requires
     enum-known-answer-4
     figure-text-requires
-    enum-told-4
-    slice-aggregate-word-4
-    word-requires-4
     enum-known-answer-5
     refusal-text-requires
     same_length
@@ -169,6 +149,4 @@ text-spec =
     same-length-7
     returns-7
     same-length-8
-    returns-8
-    same-length-9
-    returns-9)
+    returns-8)

@@ -24,13 +24,9 @@ unfolding opcodes operand_bytes
 store-of-requires c κs = same_ok (rw c.match.keys5 at c.before.before.requires)
 
 figure-of-requires : tie.Need-figure-of-requires
-unfolding opcodes operand_bytes
-figure-of-requires c κs = same_ok (rw c.match.keys7 at c.before.before.requires)
-
-offer-of-requires : tie.Need-offer-of-requires
-offer-of-requires c κs =
+figure-of-requires c κs =
     let r = c.match.rest in
-    (last-known c.before.before.args.op r.0.0.0.0.0.0.1 r.0.0.0.0.0.1 r.0.0.0.0.1 r.0.0.0.1 r.0.0.1 r.0.1 r.1 c.before.before.requires).1
+    (last-known c.before.before.args.op r.0.0.0.0.0.1 r.0.0.0.0.1 r.0.0.0.1 r.0.0.1 r.0.1 r.1 c.before.before.requires).1
 
 returns : tie.Need-returns
 returns c = rw c.before.match.keys1 c.new-of.ensures
@@ -52,13 +48,10 @@ unfolding command_of
 returns-6 c = rw c.match.keys6
 
 returns-7 : tie.Need-returns-7
-returns-7 c = rw c.before.match.keys7 c.figure-of.ensures
-
-returns-8 : tie.Need-returns-8
-returns-8 c =
+returns-7 c =
     let r = c.before.match.rest in
     let s = c.before.before.before in
-    rw (last-known s.args.op r.0.0.0.0.0.0.1 r.0.0.0.0.0.1 r.0.0.0.0.1 r.0.0.0.1 r.0.0.1 r.0.1 r.1 s.requires).0 c.offer-of.ensures
+    rw (last-known s.args.op r.0.0.0.0.0.1 r.0.0.0.0.1 r.0.0.0.1 r.0.0.1 r.0.1 r.1 s.requires).0 c.figure-of.ensures
 
 pub command-of-spec : {M : Type 1} → statement M
 command-of-spec =
@@ -70,12 +63,10 @@ command-of-spec =
     load-of-requires
     store-of-requires
     figure-of-requires
-    offer-of-requires
     returns
     returns-2
     returns-3
     returns-4
     returns-5
     returns-6
-    returns-7
-    returns-8)
+    returns-7)

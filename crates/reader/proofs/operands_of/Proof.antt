@@ -33,15 +33,11 @@ unfolding opcodes operand_bytes
 returns-7 c = rw c.match.keys7 refl
 
 returns-8 : tie.Need-returns-8
-unfolding opcodes operand_bytes
-returns-8 c = rw c.match.keys8 refl
-
-returns-9 : tie.Need-returns-9
-returns-9 c =
+returns-8 c =
     let r = c.match.rest in
-    sym (unknown c.before.args.op r.0.0.0.0.0.0.0.1 r.0.0.0.0.0.0.1 r.0.0.0.0.0.1 r.0.0.0.0.1 r.0.0.0.1 r.0.0.1 r.0.1 r.1)
+    sym (unknown c.before.args.op r.0.0.0.0.0.0.1 r.0.0.0.0.0.1 r.0.0.0.0.1 r.0.0.0.1 r.0.0.1 r.0.1 r.1)
 
 pub operands-of-spec : {M : Type 1} → statement M
 operands-of-spec =
     tie.close
-    (tie.spec returns returns-2 returns-3 returns-4 returns-5 returns-6 returns-7 returns-8 returns-9)
+    (tie.spec returns returns-2 returns-3 returns-4 returns-5 returns-6 returns-7 returns-8)

@@ -26,9 +26,6 @@ enum-told-2 c = search rules
 enum-known-command-5 : tie.Need-enum-known-command-5
 enum-known-command-5 c = search rules
 
-enum-told-3 : tie.Need-enum-told-3
-enum-told-3 c = search rules
-
 returns : tie.Need-returns
 unfolding registers_of all_at_most
 returns c = rw c.enum_told.given.1
@@ -65,10 +62,6 @@ returns-9 : tie.Need-returns-9
 unfolding registers_of all_at_most
 returns-9 c = let g = c.before.command5.given in rw g.1 (one g.0.0)
 
-returns-10 : tie.Need-returns-10
-unfolding registers_of all_at_most
-returns-10 c = rw c.enum-told3.given.1
-
 pub registers-hold-spec : {M : Type 1} → statement M
 registers-hold-spec =
     tie.close
@@ -80,7 +73,6 @@ registers-hold-spec =
     enum-known-command-4
     enum-told-2
     enum-known-command-5
-    enum-told-3
     returns
     returns-2
     returns-3
@@ -89,5 +81,4 @@ registers-hold-spec =
     returns-6
     returns-7
     returns-8
-    returns-9
-    returns-10)
+    returns-9)

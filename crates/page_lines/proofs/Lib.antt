@@ -1,3 +1,0 @@
--- Spacing: spaces up to a column. Columns: a text in its columns.
-pub mod Spacing
-pub mod Columns

@@ -1,7 +1,0 @@
--- Standing: what stands at a place, and the commands from there on. Starting: before the first command. Advancing: one command.
--- Filling: lines one behind the other. Printing: what all of it comes to.
-pub mod Standing
-pub mod Starting
-pub mod Advancing
-pub mod Filling
-pub mod Printing
