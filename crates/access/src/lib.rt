@@ -1,5 +1,7 @@
 // Read and write of one cell. The public functions take any words; those named `_formed` take an image that 1 and 2 were
 // asked of.
+#![tactic(auto)]
+
 mod counts;
 pub mod places;
 

@@ -1,4 +1,6 @@
 // Counts of a generation's pointers to the other heap, by the low byte of their base.
+#![tactic(auto)]
+
 pub mod cells;
 pub mod masks;
 pub mod words;

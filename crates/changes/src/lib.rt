@@ -1,5 +1,7 @@
 // The cells that held a moved pointer, counted on the barrier of the generation that holds them. They are all alike, so
 // their number is enough.
+#![tactic(auto)]
+
 ghost use Rattle.barrier.specs.Counts.{barrier_of, HandsBack};
 ghost use Rattle.changes.specs.Changes.{times, move_of, count_change};
 

@@ -1,5 +1,7 @@
 // Alloc: the nursery, its collection with the moves that it makes, and the change of moved pointers. `alloc` takes any words,
 // `alloc_formed` an image that 1 and 2 were asked of.
+#![tactic(auto)]
+
 mod saved;
 
 ghost use Rattle.std.specs.Prelude.{◌≡◌, true, false, List, ℕ, ◌+◌, ◌-◌, ◌*◌, ◌/◌, ◌≤◌, ◌<◌, length};

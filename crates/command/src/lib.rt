@@ -1,4 +1,6 @@
 // One command of the program: what it asks, what it does to heap and registers, and its answer.
+#![tactic(auto)]
+
 mod answers;
 
 ghost use Rattle.std.specs.Prelude.{◌≡◌, true, List, ℕ, ◌<◌, ◌≤◌, length, set as put};

@@ -1,6 +1,8 @@
 // `alloc_or_collect` and `collect_and_push_allocation`, which call each other. `left` is the number of generations left, 2 or 1: the
 // nursery and the elder, or the elder alone; it and `collected` make the falling number. `masks` are the elder's. The nursery as it
 // was before the call is saved in front of scratch, and is what the moves copy from.
+#![tactic(auto)]
+
 pub mod scratch;
 pub mod turns;
 

@@ -1,4 +1,6 @@
 // The cells of the allocations that a collection of the elder drops, counted out of its barrier.
+#![tactic(auto)]
+
 ghost use Rattle.std.specs.Prelude.{◌≡◌, true, ◌&&◌, not, ◌*◌, ◌≤◌, length};
 ghost use Rattle.model.specs.Records.{whole_cells};
 ghost use Rattle.model.specs.Elder.{keeps, count_dropped};

@@ -1,5 +1,7 @@
 // The elder generation's steps on an image: a collection, and an allocation placed. Each contract speaks of every heap of which
 // the words are the image; after a refusal the words are free, and whoever called puts the image back, but `collect_all` leaves them.
+#![tactic(auto)]
+
 ghost use Rattle.std.specs.Prelude.{◌≡◌, true, [], ◌+◌, ◌*◌, ◌/◌, ◌≤◌, ◌<◌, leb, length};
 ghost use Rattle.model.specs.Records.{whole_cells};
 ghost use Rattle.model.specs.Barrier.{most};

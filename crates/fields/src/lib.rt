@@ -1,5 +1,7 @@
 // Typed access to a formed image: its header, both write barriers and the nursery. Each contract speaks of every heap of which
 // the words are the image, so that one operation can follow another.
+#![tactic(auto)]
+
 ghost use Rattle.std.specs.Prelude.{◌≡◌, true, [], ◌∷◌, ◌+◌, ◌-◌, ◌*◌, ◌<◌, ◌≤◌, length, get_or};
 ghost use Rattle.model.specs.Records.{blank, cell_words, whole_cells};
 ghost use Rattle.model.specs.Barrier.{absent, most};

@@ -1,4 +1,6 @@
 // The figure of a Float: its exact product with 1,000, rounded once to a whole number, as a sign and thousandths; and its text.
+#![tactic(auto)]
+
 ghost use Rattle.std.specs.Prelude.{◌≡◌, [], ◌∷◌, ◌+◌, ◌*◌, ◌/◌, ◌%◌, ◌^◌, ◌<◌, ◌≤◌, length};
 ghost use Rattle.model.specs.Figure.{rounded, figure_of, figure};
 ghost use Rattle.model.specs.Listing.{figure_text};

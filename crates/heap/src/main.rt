@@ -1,5 +1,7 @@
 // The command program: a command file on standard input, its listing on standard output. There is no exit status: if a read or a
 // write fails, the program says so on standard error and ends. Printed is then nothing, or the listing's beginning.
+#![tactic(auto)]
+
 ghost use Rattle.std.specs.Prelude.{◌≡◌, ◌+◌, ◌^◌, ◌<◌, ◌≤◌, length};
 ghost use Rattle.model.specs.Listing.{longest_file};
 ghost use Rattle.heap.specs.Bytes.{Comes, Stops, Prints};

@@ -1,6 +1,8 @@
 // The heap for C: a slice is a pointer and a count, an array a pointer. Every function but the first two answers 0, or the
 // number of the question that got a no; then nothing has changed, `out` neither. The functions named `_formed` take an image that 1 and
 // 2 were asked of, and ask neither.
+#![tactic(auto)]
+
 ghost use Rattle.std.specs.Prelude.{◌≡◌, ◌&&◌, List, [], ◌∷◌, ℕ, leb, length};
 ghost use Rattle.std.specs.Int.{w64};
 ghost use Rattle.std.proofs.Common.{of_z};

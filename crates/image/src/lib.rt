@@ -1,4 +1,6 @@
 // The image of a heap: where its parts stand, a fresh one, and questions 1 to 4 over any words.
+#![tactic(auto)]
+
 mod cells;
 pub mod counts;
 mod form;

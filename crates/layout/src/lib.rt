@@ -1,5 +1,7 @@
 // The elder's operations on a whole image. Each contract speaks of every heap of which the words are the image, so that one
 // operation can follow another.
+#![tactic(auto)]
+
 pub mod places;
 
 ghost use Rattle.std.specs.Prelude.{◌≡◌, true, [], map, ◌*◌, ◌≤◌, ◌<◌, length, get_or, set, replicate};

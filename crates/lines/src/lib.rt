@@ -1,5 +1,7 @@
 // The listing's lines: a command's number, its answer's text, LF. Each function writes at a place of `out`, leaves the rest as
 // it was, and returns the place behind its text.
+#![tactic(auto)]
+
 ghost use Rattle.std.specs.Prelude.{◌≡◌, ◌+◌, ◌*◌, ◌≤◌, length};
 ghost use Rattle.model.specs.Run.{no_line};
 ghost use Rattle.model.specs.Listing.{spaced, cell_text, line_text, line};

@@ -1,4 +1,6 @@
 // The listing of a command file, written into lent buffers, whole lines at a time.
+#![tactic(auto)]
+
 ghost use Rattle.std.specs.Prelude.{◌≡◌, List, ℕ, ◌+◌, ◌<◌, ◌≤◌, length};
 ghost use Rattle.model.specs.Listing.{listing};
 ghost use Rattle.theorems.specs.Program.{program_words, program_scratch};

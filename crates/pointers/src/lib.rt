@@ -1,5 +1,7 @@
 // Moved pointers are changed in an image, each in nursery cells below the cursor and in elder cells, both barriers counting each
 // change; and in roots. After a refusal the image's words are free, and whoever called puts the image back.
+#![tactic(auto)]
+
 ghost use Rattle.std.specs.Prelude.{◌≡◌, true, ◌*◌, ◌≤◌, length, take};
 ghost use Rattle.model.specs.Lists.{keep_if};
 ghost use Rattle.model.specs.Records.{cell_words, whole_cells};

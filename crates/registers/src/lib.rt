@@ -1,4 +1,6 @@
 // The sixteen registers of the command program, Uninitialized at first: the roots.
+#![tactic(auto)]
+
 ghost use Rattle.std.specs.Prelude.{◌≡◌, true, ◌<◌, get_or, replicate, set};
 ghost use Rattle.model.specs.Records.{blank, cell_words, whole_cells};
 ghost use Rattle.model.specs.Calls.{cells_in};

@@ -1,5 +1,7 @@
 // The report: its numbers are taken, then both generations are collected without roots or masks, so that no allocation stays.
 // The functions named `_formed` take an image that 1 and 2 were asked of, the others any words.
+#![tactic(auto)]
+
 ghost use Rattle.std.specs.Prelude.{◌≡◌, List, [], ℕ, length, take, drop};
 ghost use Rattle.model.specs.Lists.{places, sum};
 ghost use Rattle.model.specs.Barrier.{counts};

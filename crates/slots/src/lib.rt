@@ -2,6 +2,8 @@
 //
 // A reading function takes the lengths and the cells' words as two slices. A writing one takes a single slice, since two parts
 // of one slice can't be lent together: s lengths, other words up to `at`, the cells' words.
+#![tactic(auto)]
+
 ghost use Rattle.std.specs.Prelude.{◌≡◌, true, [], map, ◌+◌, ◌-◌, ◌*◌, ◌^◌, ◌≤◌, ◌<◌, length, get_or, take, set, replicate};
 ghost use Rattle.model.specs.Lists.{keep_if, flat, places, sum};
 ghost use Rattle.model.specs.Records.{blank, cell_words, whole_cells};

@@ -36,7 +36,7 @@ set-from (s ∷ ss) (suc i) t m = ⊎_elim (λ k. inl (Memᴰ.append_left (flat 
 -- a member and its place
 
 module _ {A : Type 0} where
-  pub mem-at : (d : A) {l : List A} {x : A} → Memᴰ x l → (i : ℕ) × (i < length l) × (get_or l i d ≡ x)
+  pub mem-at : (d : A) {x : A} {l : List A} → Memᴰ x l → (i : ℕ) × (i < length l) × (get_or l i d ≡ x)
   mem-at d (Memᴰ.head e) = (zero, suc-le-suc zero-le, sym e)
   mem-at d (Memᴰ.tail m) = let r = mem-at d m in (suc r.0, suc-le-suc r.1, r.2)
 

@@ -58,7 +58,7 @@ module _ {A : Type 0} where
   at_front (a ∷ l) t zero h = refl
   at_front (a ∷ l) t (suc j) h = at_front l t j (le_of_suc-le-suc h)
 
-  mem-at : {l : List A} {x : A} → Memᴰ x l → (j : ℕ) × (get_elem? l j ≡ some x)
+  mem-at : {x : A} {l : List A} → Memᴰ x l → (j : ℕ) × (get_elem? l j ≡ some x)
   mem-at (Memᴰ.head e) = (zero, ap some (sym e))
   mem-at (Memᴰ.tail m) = let r = mem-at m in (suc r.0, r.1)
 

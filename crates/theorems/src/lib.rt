@@ -1,4 +1,6 @@
 // The theorems have no code. A crate has one function at least; this is the number of counts of a barrier.
+#![tactic(auto)]
+
 ghost use Rattle.std.specs.Prelude.{◌≡◌};
 ghost use Rattle.model.specs.Barrier.{cache};
 

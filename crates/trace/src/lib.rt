@@ -1,4 +1,6 @@
 // The list of members of a collection, in lent words, for either heap. It is the model's list, in the same order.
+#![tactic(auto)]
+
 ghost use Rattle.std.specs.Prelude.{◌≡◌, [], ◌++◌, ℕ, ◌+◌, ◌*◌, ◌/◌, ◌^◌, ◌≤◌, ◌<◌, length, get_or, take};
 ghost use Rattle.model.specs.Lists.{flat, sum, places};
 ghost use Rattle.model.specs.Reach.{mem, add, enter, walk};

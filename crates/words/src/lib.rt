@@ -1,5 +1,7 @@
 // Words of one slice moved, copied, zeroed and replaced, in place, and summed. Each contract is one equation over the whole
 // slice, so that it also says which words stay.
+#![tactic(auto)]
+
 ghost use Rattle.std.specs.Prelude.{◌≡◌, ◌++◌, ◌+◌, ◌-◌, ◌^◌, ◌≤◌, ◌<◌, length, take, drop, replicate};
 ghost use Rattle.std.proofs.Math.Seq.{paste};
 ghost use Rattle.model.specs.Lists.{sum};
