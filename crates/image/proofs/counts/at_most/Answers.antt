@@ -1,0 +1,16 @@
+use Prim.Native.Nat.{◌-◌}
+use borrow.Author.Rules.{rules}
+use Rattle.image.proofs.Scans.{laws}
+use Rattle.image.proofs.counts.at_most.Goals as goal
+
+pub loop-i-init : goal.loop-i-init
+loop-i-init c = search (laws, rules)
+
+pub returns-then-m-words : goal.returns-then-m-words
+returns-then-m-words c = search (laws, rules)
+
+pub loop-i-preserved : goal.loop-i-preserved
+loop-i-preserved c = search (laws, rules)
+
+pub returns : goal.returns
+returns c = search (laws, rules)
