@@ -15,4 +15,3 @@ pub mod Command
 pub mod Run
 pub mod Listing
 pub mod Demand
-pub mod Cases
