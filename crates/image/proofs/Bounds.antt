@@ -14,11 +14,11 @@ use Rattle.image.specs.Places.{image_end, Bounded, Sized}
 
 -- what a test says whose answer was p
 module _ {a p : Bool} (e : p ≡ a) where
-  pub said-no : not p ≡ true → a ≡ false
-  said-no h = sym e ∙ not-true p h
+  pub said-no : p ≡ false → a ≡ false
+  said-no h = sym e ∙ h
 
-  pub said-yes : not p ≡ false → a ≡ true
-  said-yes h = sym e ∙ not-false p h
+  pub said-yes : p ≡ true → a ≡ true
+  said-yes h = sym e ∙ h
 
 -- sizes
 

@@ -91,11 +91,11 @@ module _ {w : List ℕ} {goal : Bool} {i : ℕ} (v : Cutting w goal i) where
       let o : suc (suc i) < length w = omega arith in
       rw (add-one, add-two, add-three) (rw (drop-cons w i 0 a, drop-cons w (suc i) 0 b, drop-cons w (suc (suc i)) 0 o) at v.is)
 
-  pub whole-turn : {t : Bool} → 3 ≤ length w - i → t ≡ valid_words (get_or w i 0) (get_or w (i + 1) 0) (get_or w (i + 2) 0) → not t ≡ false → Cutting w goal (i + 3)
-  whole-turn {t} h e p = record { within = omega arith; is = rw (sym e ∙ not-false t p) at (whole-step h) }
+  pub whole-turn : {t : Bool} → 3 ≤ length w - i → t ≡ valid_words (get_or w i 0) (get_or w (i + 1) 0) (get_or w (i + 2) 0) → t ≡ true → Cutting w goal (i + 3)
+  whole-turn {t} h e p = record { within = omega arith; is = rw (sym e ∙ p) at (whole-step h) }
 
-  pub whole-stop : {t : Bool} → 3 ≤ length w - i → t ≡ valid_words (get_or w i 0) (get_or w (i + 1) 0) (get_or w (i + 2) 0) → not t ≡ true → false ≡ goal
-  whole-stop {t} h e p = rw (sym e ∙ not-true t p) at (whole-step h)
+  pub whole-stop : {t : Bool} → 3 ≤ length w - i → t ≡ valid_words (get_or w i 0) (get_or w (i + 1) 0) (get_or w (i + 2) 0) → t ≡ false → false ≡ goal
+  whole-stop {t} h e p = rw (sym e ∙ p) at (whole-step h)
 
   pub whole-done : length w - i < 3 → eqb i (length w) ≡ goal
   whole-done h =

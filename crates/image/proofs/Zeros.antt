@@ -78,18 +78,18 @@ put-sizes (suc (suc (suc zero))) n t s c h = absurd (omega arith)
 put-sizes (suc (suc (suc (suc k)))) n t s c h = let e : suc (suc (suc (suc k))) - 4 ≡ k = omega arith in rw e
 
 module _ {p : Bool} (n t s c : ℕ) (w : List ℕ) (e : p ≡ (in_bounds (sizes n t s c) && eqb (length w) (image_length (sizes n t s c)))) where
-  pub new-refused : not p ≡ true → made_outcome (Refused 1) w ≡ new_call (sizes n t s c) w
+  pub new-refused : p ≡ false → made_outcome (Refused 1) w ≡ new_call (sizes n t s c) w
   unfolding made_outcome new_call left
   new-refused h = rw (said-no e h)
 
-  new-length : not p ≡ false → length w ≡ image_length (sizes n t s c)
+  new-length : p ≡ true → length w ≡ image_length (sizes n t s c)
   new-length h = eqb-true _ _ (and_right (in_bounds (sizes n t s c)) _ (said-yes e h))
 
-  pub new-room : not p ≡ false → 4 ≤ length w
+  pub new-room : p ≡ true → 4 ≤ length w
   unfolding image_length
   new-room h = omega (arith, new-length h)
 
-  pub new-done : {v : List ℕ} → not p ≡ false → v ≡ set (set (set (set (replicate (length w) 0) 0 n) 1 t) 2 s) 3 c → made_outcome Done v ≡ new_call (sizes n t s c) w
+  pub new-done : {v : List ℕ} → p ≡ true → v ≡ set (set (set (set (replicate (length w) 0) 0 n) 1 t) 2 s) 3 c → made_outcome Done v ≡ new_call (sizes n t s c) w
   unfolding made_outcome new_call left
   new-done {v} h q =
       let image : v ≡ encode (fresh (sizes n t s c)) = q ∙ put-sizes (length w) n t s c (new-room h) ∙ rw (new-length h) (sym (fresh-image (sizes n t s c))) in

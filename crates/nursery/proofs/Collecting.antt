@@ -39,11 +39,11 @@ module _ (roots : List Cell) (ms : List ℕ) {w : List ℕ} {collections : ℕ} 
 
     module _ {all : Bool} (asked : Reads (λ h. all_allocated h.young (members kept sorted)) w all) where
       -- a survivor has no allocation
-      pub collect-lost : not all ≡ true → {v : List ℕ} → Does (collect_step roots ms) w (collected_answer (Refused 6) sorted) v
+      pub collect-lost : all ≡ false → {v : List ℕ} → Does (collect_step roots ms) w (collected_answer (Refused 6) sorted) v
       unfolding collect_step collect_young collected_answer
-      collect-lost f = record { does = λ h i. rw (not_full h i, ← survivors-are h i, asked.reads h i, not-true all f) }
+      collect-lost f = record { does = λ h i. rw (not_full h i, ← survivors-are h i, asked.reads h i, f) }
 
-      module _ (found : not all ≡ false) {promotions : ℕ} (moved : Reads (λ h. h.young.proms) w promotions) where
+      module _ (found : all ≡ true) {promotions : ℕ} (moved : Reads (λ h. h.young.proms) w promotions) where
         promotions-are : (h : Heap) → Image w h → h.young.proms + length (young_members h.young roots ms) ≡ promotions + visits
         promotions-are h i = omega (arith, moved.reads h i, visits-are h i)
 
@@ -52,13 +52,13 @@ module _ (roots : List Cell) (ms : List ℕ) {w : List ℕ} {collections : ℕ} 
         unfolding collect_step collect_young collected_answer
         collect-over f =
             let over : most < promotions + visits = omega (arith, most-is) in
-            record { does = λ h i. rw (not_full h i, ← survivors-are h i, asked.reads h i, not-false all found, promotions-are h i, lt-leb (promotions + visits) most over) }
+            record { does = λ h i. rw (not_full h i, ← survivors-are h i, asked.reads h i, found, promotions-are h i, lt-leb (promotions + visits) most over) }
 
         pub collect-done : visits ≤ 4294967295 - promotions → {v : List ℕ} → Turns (on_young (λ y. emptied y visits)) w v → Does (collect_step roots ms) w (collected_answer (Done visits kept) sorted) v
         unfolding collect_step collect_young collected_answer
         collect-done f t = record {
           does = λ h i.
               let below : promotions + visits ≤ most = omega (arith, most-is, moved.reads h i, i.fit.young.proms) in
-              rw (not_full h i, ← survivors-are h i, asked.reads h i, not-false all found, promotions-are h i, le-leb (promotions + visits) most below, ← visits-are h i)
+              rw (not_full h i, ← survivors-are h i, asked.reads h i, found, promotions-are h i, le-leb (promotions + visits) most below, ← visits-are h i)
               (ap (λ (l : List Ptr). (visits, l)) (survivors-are h i), t.turns h i);
         }

@@ -12,14 +12,14 @@ use Rattle.access.proofs.write_formed.Statement.{statement}
 use Rattle.access.proofs.write_formed.Tie as tie
 
 good : (c : tie.Else1) → value_good c.before.before.before.before.args.cell.now ≡ true
-good c = sym c.before.value-ok.ensures ∙ not-false _ c.if1.false
+good c = sym c.before.value-ok.ensures ∙ c.if1.false
 
 value-ok-requires : tie.Need-value-ok-requires
 value-ok-requires c κs = search rules
 
 returns : tie.Need-returns
 unfolding left write_on stored_outcome
-returns c = rw (sym c.before.value-ok.ensures ∙ not-true _ c.if1.true)
+returns c = rw (sym c.before.value-ok.ensures ∙ c.if1.true)
 
 write-young-requires : tie.Need-write-young-requires
 write-young-requires c κs = (c.before.before.before.before.before.before.before.requires, good c.before.before.before)

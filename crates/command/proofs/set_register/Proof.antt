@@ -12,10 +12,10 @@ refused-requires : tie.Need-refused-requires
 refused-requires c κs = search rules
 
 returns : tie.Need-returns
-returns c w h = set-refused h c.before.before.before.requires.1 (sym c.before.before.is-valid.ensures ∙ not-true _ c.before.if1.true) c.refused.ensures
+returns c w h = set-refused h c.before.before.before.requires.1 (sym c.before.before.is-valid.ensures ∙ c.before.if1.true) c.refused.ensures
 
 value-of-requires : tie.Need-value-of-requires
-value-of-requires c κs = sym c.before.is-valid.ensures ∙ not-false _ c.if1.false
+value-of-requires c κs = sym c.before.is-valid.ensures ∙ c.if1.false
 
 set-requires : tie.Need-set-requires
 set-requires c κs = search rules
@@ -23,7 +23,7 @@ set-requires c κs = search rules
 returns-2 : tie.Need-returns-2
 returns-2 c w h =
     let v = c.before.before.before in
-    set-done h v.before.requires.1 c.before.value_of_lem.result (sym v.is-valid.ensures ∙ not-false _ c.before.before.if1.false) c.before.value_of_lem.ensures c.set.ensures
+    set-done h v.before.requires.1 c.before.value_of_lem.result (sym v.is-valid.ensures ∙ c.before.before.if1.false) c.before.value_of_lem.ensures c.set.ensures
 
 pub set-register-spec : {M : Type 1} → statement M
 set-register-spec =

@@ -11,7 +11,7 @@ pub put-requires : goal.put-requires
 put-requires c =
     let a = c.args in
     let room = new-room a.n a.t a.s a.c a.image.now c.fit.ensures c.if-not-fit.false in
-    omega (arith, c.zero.auto.0)
+    omega (arith, c.zero.auto.words)
 
 pub returns : goal.returns
 returns c =

@@ -10,11 +10,8 @@ use mir.Val.{Fits}
 use mir.Syntax.{w64}
 use Rattle.model.specs.Lists.{sum}
 use Rattle.words.proofs.Sums.{sum-next, sum-within}
+use Rattle.words.proofs.sum_first.Invariants.{Summed}
 use Rattle.words.proofs.sum_first.Goals as goal
-
-record Summed (w : List ℕ) (n s i : ℕ) : Type 0 where
-  within : i ≤ n
-  is : s ≡ sum (take i w)
 
 sum-begin : (w : List ℕ) (n : ℕ) → Summed w n 0 0
 unfolding sum

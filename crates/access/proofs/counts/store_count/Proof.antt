@@ -25,7 +25,7 @@ returns-2 c =
     let v = c.before.before.before.v.given in
     ⊎_elim
     (λ w. apart-stores a.own a.v a.t4 (own-apart a.own a.v v.0.0 v.1 w.taken))
-    (λ w. absent-stores a.own a.v a.t4 (not-true _ w.1.taken))
+    (λ w. absent-stores a.own a.v a.t4 w.1.taken)
     c.if1.branch
 
 place-requires : tie.Need-place-requires
@@ -55,7 +55,7 @@ returns-3 c =
     let s = c.before.before.before.before.before.before.before.before.before.before.before.before.before in
     let v = c.before.before.before.before.before.before.before.before.before.before.v.given in
     let k = c.before.before.before.before.before.place in
-    count-stores s.args.own s.args.v s.args.t4 v.0.0 v.1 c.before.before.before.before.before.before.before.if1.false (not-false _ c.before.before.before.before.before.before.if2.false) k.ensures refl c.before.before.put_count.ensures
+    count-stores s.args.own s.args.v s.args.t4 v.0.0 v.1 c.before.before.before.before.before.before.before.if1.false c.before.before.before.before.before.before.if2.false k.ensures refl c.before.before.put_count.ensures
 
 pub store-count-spec : {M : Type 1} → statement M
 store-count-spec =

@@ -36,7 +36,7 @@ element-copy-out-n c = search rules
 opened : (c : tie.Joined2) → Opened c.before.before.before.before.before.before.args.t1 c.if2.self
 opened c =
     let b = c.before.before.before.before.before.before.args.t1 in
-    ⊎_elim (λ w. opened-absent b c.if2.self (not-true _ w.0.taken) w.2) (λ w. opened-present b c.if2.self (not-false _ w.0.left) w.1) c.if2.branch
+    ⊎_elim (λ w. opened-absent b c.if2.self w.0.taken w.2) (λ w. opened-present b c.if2.self w.0.left w.1) c.if2.branch
 
 returns-3 : tie.Need-returns-3
 returns-3 c =

@@ -23,7 +23,7 @@ returns-2 c =
     hands-done _ refl
     (⊎_elim
     (λ w. step-own (steps-out a.own) (barrier_of a.t1) a.v v.0.0 v.1 w.taken)
-    (λ w. down-absent a.t1 _ (not-true _ w.1.taken) ∙ step_other (steps-out a.own) (barrier_of a.t1) a.v v.0.0 v.1 w.0.left _ refl)
+    (λ w. down-absent a.t1 _ w.1.taken ∙ step_other (steps-out a.own) (barrier_of a.t1) a.v v.0.0 v.1 w.0.left _ refl)
     c.if1.branch)
 
 place-requires : tie.Need-place-requires
@@ -41,7 +41,7 @@ returns-3 c =
     let v = c.before.before.before.before.before.before.before.v.given in
     let k = c.before.before.place in
     hands-refused _ refl refl
-    (down-none a.t1 k.result (not-false _ c.before.before.before.if2.false) c.if3.true
+    (down-none a.t1 k.result c.before.before.before.if2.false c.if3.true
     ∙ step_other (steps-out a.own) (barrier_of a.t1) a.v v.0.0 v.1 c.before.before.before.before.if1.false k.result k.ensures)
 
 sub_self : tie.Need-overflow-sub-self
@@ -59,7 +59,7 @@ returns-4 c =
     let v = c.before.before.before.before.before.before.before.v.given in
     let k = c.before.before.place in
     hands-done _ refl
-    (down-less a.t1 k.result (not-false _ c.before.before.before.if2.false) c.if3.false
+    (down-less a.t1 k.result c.before.before.before.if2.false c.if3.false
     ∙ step_other (steps-out a.own) (barrier_of a.t1) a.v v.0.0 v.1 c.before.before.before.before.if1.false k.result k.ensures)
 
 pub count-out-spec : {M : Type 1} → statement M

@@ -21,7 +21,7 @@ counts-long s = search rules
 
 returns : tie.Need-returns invariant-loop decreases-loop
 unfolding masks
-returns c = (rw (not-true c.before.args.t1.present c.if1.true), search rules)
+returns c = (rw c.if1.true, search rules)
 
 loop-holds : tie.Need-loop-init invariant-loop decreases-loop
 loop-holds c = found_none _ _ (length-replicate {A = ℕ} 256 0)
@@ -58,7 +58,7 @@ returns-2 : tie.Need-returns-2 invariant-loop decreases-loop
 unfolding masks
 returns-2 c =
     let l = c.before.loop.invariant in
-    (rw (not-false c.before.before.before.args.t1.present c.before.before.if1.false) (found_all l (counts-long c.before.before.before) c.loop-test.false), omega (arith, l.within, l.few))
+    (rw c.before.before.if1.false (found_all l (counts-long c.before.before.before) c.loop-test.false), omega (arith, l.within, l.few))
 
 pub of_spec : {M : Type 1} → statement M
 of_spec =
