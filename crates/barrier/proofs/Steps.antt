@@ -1,19 +1,15 @@
 -- A count step against the model's.
 use mathlib.Core.Path.{◌≡◌, refl, ap, ◌∙◌}
 use mathlib.Core.Bool.{Bool, true, false}
-use mathlib.Core.List.{[], ◌∷◌}
 use Prim.Native.Nat.{ℕ, ◌+◌, ◌-◌, ◌%◌, ◌<◌, ◌≤◌}
 use native.Mathlib.Omega.{arith}
 use native.Mathlib.Numerals.{add-one}
 use lib.Dec.{eqb}
 use lib.ListN.{get_or, set, replicate, get_or-replicate}
-use types.Run.{OneOf, miss}
-use denote.Enum.Declared.{tag_of}
 use borrow.Author.Tests.{lt-ltb, le-ltb, eq-eqb, ne_eqb}
 use Rattle.model.specs.Res.{Res, ok, refuse}
 use Rattle.model.specs.Records.{Ptr, Cell, plain, ref, blank}
 use Rattle.model.specs.Barrier.{Barrier, absent, present, cache, most, counts, count, up, down, count_in, count_out}
-use Rattle.value.specs.contracts.Value.{the_type}
 use Rattle.value.specs.declared.Pointer.{Pointer}
 use Rattle.value.specs.declared.Value.{Value}
 use Rattle.value.specs.declared.Value.TheVariants.{Uninitialized, Int, Bool as BoolV, Float as FloatV, Char, Pointer as PointerV}
@@ -44,14 +40,14 @@ steps_of true = steps-in
 steps_of false = steps-out
 
 module _ {own : ℕ} {f : Cell → Barrier → Res Barrier} {g : ℕ → Barrier → Res Barrier} (s : Steps own f g) (b : Barrier) where
-  pub step-plain : (v : Value) → OneOf (0 ∷ 1 ∷ 2 ∷ 3 ∷ 4 ∷ []) (tag_of the_type v) → ok b ≡ f (value_cell v) b
+  pub step-plain : (v : Value) → ((p : Pointer) → v ≡ PointerV p → ⊥) → ok b ≡ f (value_cell v) b
   unfolding value_cell blank
   step-plain Uninitialized h = s.of_plain _ _ b
   step-plain (Int x) h = s.of_plain _ _ b
   step-plain (BoolV x) h = s.of_plain _ _ b
   step-plain (FloatV n x) h = s.of_plain _ _ b
   step-plain (Char x) h = s.of_plain _ _ b
-  step-plain (PointerV p) h = absurd (miss (0 ∷ 1 ∷ 2 ∷ 3 ∷ 4 ∷ []) 5 tt h)
+  step-plain (PointerV p) h = absurd (h p refl)
 
   module _ (v : Value) (p : Pointer) (e : v ≡ PointerV p) where
     pub step-own : p.heap ≡ own → ok b ≡ f (value_cell v) b

@@ -13,7 +13,7 @@ ghost use Rattle.barrier.specs.Counts.{barrier_of, step_of, HandsBack};
 use value::Value;
 
 // The counts of an absent barrier are taken as zero, whatever the array holds.
-#[derive(Drop)]
+#[derive(Clone, Copy)]
 pub struct WriteBarrier {
     pub present: bool,
     pub counts: [u32; 256],

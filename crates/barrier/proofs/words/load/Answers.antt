@@ -1,4 +1,3 @@
-use borrow.Author.Rules.{rules}
 use mathlib.Core.Path.{◌≡◌, refl, ap, ◌∙◌}
 use mathlib.Core.Bool.{true, false≢true}
 use mathlib.Core.List.{List}
@@ -6,8 +5,7 @@ use Prim.Native.Nat.{ℕ, zero, suc}
 use Rattle.model.specs.Lists.{all_at_most}
 use Rattle.model.specs.Barrier.{present, most}
 use Rattle.model.specs.Image.{barrier, flagged}
-use Rattle.barrier.proofs.words.load.Statement.{statement}
-use Rattle.barrier.proofs.words.load.Tie as tie
+use Rattle.barrier.proofs.words.load.Goals as goal
 
 -- a flag that is not 0
 module _ (cs : List ℕ) where
@@ -22,22 +20,16 @@ module _ (cs : List ℕ) where
   on zero h = absurd (h refl)
   on (suc f) h = refl
 
-new-requires : tie.Need-new-requires
-new-requires c κs = search rules
-
-returns : tie.Need-returns
+pub returns-then-flag-eq0 : goal.returns-then-flag-eq0
 unfolding barrier
-returns c = rw c.before.if1.true c.new.ensures
+returns-then-flag-eq0 c = rw c.if-flag-eq0.true c.new.ensures
 
-narrow-requires : tie.Need-narrow-requires
-narrow-requires c κs =
+pub narrow-counts-requires : goal.narrow-counts-requires
+narrow-counts-requires c =
     let s = c.before.before in
-    (s.requires.1, bounded s.args.words.now s.args.flag c.if1.false s.requires.0)
+    (s.requires.1, bounded s.args.words.now s.args.flag c.if-flag-eq0.false s.requires.0)
 
-returns-2 : tie.Need-returns-2
-returns-2 c =
-    let a = c.before.before.before.args in
-    ap present c.narrow.ensures ∙ on a.words.now a.flag c.before.if1.false
-
-pub load_spec : {M : Type 1} → statement M
-load_spec = tie.close (tie.spec new-requires returns narrow-requires returns-2)
+pub returns : goal.returns
+returns c =
+    let a = c.args in
+    ap present c.narrow-counts.ensures ∙ on a.words.now a.flag c.if-flag-eq0.false

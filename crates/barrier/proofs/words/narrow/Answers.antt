@@ -1,0 +1,30 @@
+use borrow.Author.Rules.{rules}
+use Prim.Native.Nat.{ℕ}
+use native.Mathlib.Omega.{arith}
+use lib.ListN.{length-replicate}
+use Rattle.model.specs.Barrier.{cache, most}
+use Rattle.theorems.proofs.Barrier.{all_at_most-at}
+use Rattle.barrier.proofs.Copies.{copied_none, copied_more, copied_all}
+use Rattle.barrier.proofs.words.narrow.Goals as goal
+
+pub loop-i-init : goal.loop-i-init
+loop-i-init c = copied_none _ _
+
+-- there are 256 words
+pub bounds-words-i : goal.bounds-words-i
+unfolding cache
+bounds-words-i c = search rules
+
+pub overflow_cast-counts : goal.overflow_cast-counts
+unfolding most
+overflow_cast-counts c =
+    let s = c.before.before.before in
+    omega (arith, all_at_most-at most s.args.words.now c.loop-i.i s.requires.1)
+
+pub loop-i-preserved : goal.loop-i-preserved
+unfolding cache
+loop-i-preserved c = copied_more c.loop-i.invariant c.requires.0 (length-replicate {A = ℕ} 256 0) c.loop-i-test.true
+
+pub returns : goal.returns
+unfolding cache
+returns c = copied_all c.loop-i.invariant c.requires.0 (length-replicate {A = ℕ} 256 0) c.loop-i-test.false
