@@ -13,7 +13,7 @@ const HALF: u64 = 0x8000_0000_0000_0000;
 const LAST: u64 = 0xFFFF_FFFF_FFFF_FFFF;
 
 // Refused has the number of the question that got a no.
-#[derive(Drop)]
+#[derive(Clone, Copy)]
 pub enum Place {
     At(usize),
     Refused(u64),

@@ -20,13 +20,13 @@ pub struct WriteBarrier {
 }
 
 // Refused has the number of the question that got a no.
-#[derive(Drop)]
+#[derive(Clone, Copy)]
 pub enum Counting {
     Done,
     Refused(u64),
 }
 
-#[derive(Drop)]
+#[derive(Clone, Copy)]
 pub struct Counted {
     pub answer: Counting,
     pub barrier: WriteBarrier,

@@ -6,7 +6,7 @@ ghost use Rattle.barrier.specs.Counts.{barrier_of, mask_list};
 use crate::WriteBarrier;
 
 // The first `count` places.
-#[derive(Drop)]
+#[derive(Clone, Copy)]
 pub struct Masks {
     pub places: [u64; 256],
     pub count: usize,

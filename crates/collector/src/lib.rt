@@ -28,13 +28,13 @@ use image::Checked;
 use value::Pointer;
 
 // A generation's collections in one call, and their visits.
-#[derive(Drop)]
+#[derive(Clone, Copy)]
 pub struct Work {
     pub collections: u64,
     pub visits: u64,
 }
 
-#[derive(Drop)]
+#[derive(Clone, Copy)]
 pub struct Allocation {
     pub pointer: Pointer,
     pub nursery: Work,
@@ -42,7 +42,7 @@ pub struct Allocation {
 }
 
 // Refused has the number of the question that got a no.
-#[derive(Drop)]
+#[derive(Clone, Copy)]
 pub enum Allocated {
     At(Allocation),
     Refused(u64),

@@ -5,7 +5,7 @@ use report::Statistics;
 use value::Value;
 
 // Refused has the number of the question that got a no.
-#[derive(Drop)]
+#[derive(Clone, Copy)]
 pub enum Answer {
     New,
     Alloc(Allocation),

@@ -29,14 +29,14 @@ use report::Reported;
 use value::{Pointer, Value};
 
 // The heap's words in a buffer, 0 without a heap; and the registers.
-#[derive(Drop)]
+#[derive(Clone, Copy)]
 pub struct State {
     pub words: usize,
     pub registers: Registers,
 }
 
 // What one command over the heap's own words leaves.
-#[derive(Drop)]
+#[derive(Clone, Copy)]
 struct Acted {
     answer: Answer,
     registers: Registers,
@@ -121,7 +121,7 @@ fn alloc_in(
 // ---- Load and store
 
 // Where an access goes, or the number of the question that got a no.
-#[derive(Drop)]
+#[derive(Clone, Copy)]
 enum Target {
     Is(Pointer),
     Refused(u64),
@@ -250,7 +250,7 @@ fn is_bounded(n: u64, t: u64, s: u64, c: u64) -> bool
 }
 
 // The answer, and the words of the heap that was made, 0 if there is none.
-#[derive(Drop)]
+#[derive(Clone, Copy)]
 struct Begun {
     answer: Answer,
     words: usize,
@@ -333,7 +333,7 @@ fn act(image: &mut [u64], scratch: &mut [u64], registers: Registers, command: Co
 }
 
 // What one command leaves.
-#[derive(Drop)]
+#[derive(Clone, Copy)]
 pub struct Performed {
     pub answer: Answer,
     pub state: State,

@@ -11,14 +11,14 @@ use crate::scratch;
 use elder::Placed;
 
 // A new array of so many cells, or the nursery's allocation at a base moved.
-#[derive(Drop)]
+#[derive(Clone, Copy)]
 pub enum Request {
     New(u64),
     Move(u64),
 }
 
 // Where it went; how many pointers were moved for it, the nursery's visits; the elder's collections, and what they entered.
-#[derive(Drop)]
+#[derive(Clone, Copy)]
 pub struct Gave {
     pub heap: u8,
     pub base: u64,
@@ -29,14 +29,14 @@ pub struct Gave {
 }
 
 // Refused has the number of the question that got a no.
-#[derive(Drop)]
+#[derive(Clone, Copy)]
 pub enum Outcome {
     At(Gave),
     Refused(u64),
 }
 
 // The elder's collections for the survivors so far, and what they entered.
-#[derive(Drop)]
+#[derive(Clone, Copy)]
 pub struct Tally {
     pub sweeps: u64,
     pub entered: u64,

@@ -21,14 +21,14 @@ use image::counts::MOST;
 use layout::{Fit, places};
 
 // The visits, or the number of the question that got a no.
-#[derive(Drop)]
+#[derive(Clone, Copy)]
 pub enum Swept {
     Done(u64),
     Refused(u64),
 }
 
 // The new base, or the number of the question that got a no.
-#[derive(Drop)]
+#[derive(Clone, Copy)]
 pub enum Placed {
     At(u64),
     Refused(u64),

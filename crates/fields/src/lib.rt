@@ -161,7 +161,7 @@ pub fn put_count(image: &mut [u64], own: u8, k: usize, n: u64)
 }
 
 // Where the nursery's cells stand.
-#[derive(Drop)]
+#[derive(Clone, Copy)]
 struct Part {
     from: usize,
     end: usize,

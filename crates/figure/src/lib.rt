@@ -9,14 +9,14 @@ ghost use Rattle.figure.specs.Written.{Wrote};
 
 pub mod text;
 
-#[derive(Drop)]
+#[derive(Clone, Copy)]
 pub struct Figure {
     pub negative: bool,
     pub thousandths: u64,
 }
 
 // A figure, or the number of the question that got a no.
-#[derive(Drop)]
+#[derive(Clone, Copy)]
 pub enum Figured {
     Is(Figure),
     Refused(u64),

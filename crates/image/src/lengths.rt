@@ -5,7 +5,7 @@ ghost use Rattle.model.specs.Image.{tiles};
 ghost use Rattle.image.specs.Tiling.{tile_of};
 
 // What is left to fill after a length, and how many places its allocation still takes.
-#[derive(Drop)]
+#[derive(Clone, Copy)]
 enum Filled {
     Next(u64, u64),
     Gap,

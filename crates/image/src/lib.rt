@@ -16,13 +16,13 @@ ghost use Rattle.model.specs.Calls.{roots_good, value_good, scratch_length, new_
 ghost use Rattle.image.specs.Places.{sizes};
 ghost use Rattle.image.specs.Answers.{checked_answer, image_asked, made_outcome, or_zero};
 
-#[derive(Drop)]
+#[derive(Clone, Copy)]
 pub enum Checked {
     Formed,
     Refused(u64),
 }
 
-#[derive(Drop)]
+#[derive(Clone, Copy)]
 pub enum Made {
     Done,
     Refused(u64),

@@ -50,7 +50,7 @@ pub fn write_elder(image: &mut [u64], base: u64, offset: u64, cell: &[u64])
 }
 
 // The base of a new allocation, or no room for it.
-#[derive(Drop)]
+#[derive(Clone, Copy)]
 pub enum Fit {
     At(usize),
     No,

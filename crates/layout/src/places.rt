@@ -7,7 +7,7 @@ use image::layout;
 
 // Sizes, and the places of the regions: the counts of both barriers, the nursery's first; lengths and slots; the nursery's
 // cells and the elder's.
-#[derive(Drop)]
+#[derive(Clone, Copy)]
 pub struct Layout {
     pub n: usize,
     pub s: usize,

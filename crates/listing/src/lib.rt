@@ -18,7 +18,7 @@ const FILE: usize = 65536;
 const LINE: usize = 259;
 
 // The place and the number of the next command, and the state before it.
-#[derive(Drop)]
+#[derive(Clone, Copy)]
 pub struct Run {
     pub at: usize,
     pub number: u64,
@@ -26,7 +26,7 @@ pub struct Run {
 }
 
 // The run after what was written, and the place behind that.
-#[derive(Drop)]
+#[derive(Clone, Copy)]
 pub struct Filled {
     pub run: Run,
     pub used: usize,

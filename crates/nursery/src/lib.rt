@@ -15,7 +15,7 @@ use image::counts::MOST;
 use layout::places;
 
 // The visits and the number of survivors, or the number of the question that got a no.
-#[derive(Drop)]
+#[derive(Clone, Copy)]
 pub enum Collected {
     Done(u64, usize),
     Refused(u64),

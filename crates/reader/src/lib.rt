@@ -10,7 +10,7 @@ ghost use Rattle.model.specs.Command.{opcodes, operand_bytes, field as field_of,
 ghost use Rattle.reader.specs.Answer.{model_command, operands_answer, next_answer, place_behind, moved_to, next_at};
 
 // Each operand has the width that it has in the file. Amounts and added offsets are signed; a value is its cell's three words.
-#[derive(Drop)]
+#[derive(Clone, Copy)]
 pub enum Command {
     New {
         n: u16,
@@ -45,7 +45,7 @@ pub enum Command {
 }
 
 // What stands at a place of a file: a command and the place behind it, the file's end, or what question 12 refuses.
-#[derive(Drop)]
+#[derive(Clone, Copy)]
 pub enum Next {
     Is(Command, usize),
     End,
@@ -194,7 +194,7 @@ const REPORT: u8 = 0x52;
 const FIGURE: u8 = 0x46;
 
 // How many operand bytes a command has, if its byte is known.
-#[derive(Drop)]
+#[derive(Clone, Copy)]
 enum Operands {
     Are(usize),
     Unknown,

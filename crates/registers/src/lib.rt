@@ -9,12 +9,12 @@ ghost use Rattle.registers.specs.Cells.{register_of, unset, cells_of_registers, 
 use value::{Value, encode, value_of};
 
 // A struct's array may hold structs, and no enums: so each value stands in a struct.
-#[derive(Drop)]
+#[derive(Clone, Copy)]
 pub struct Register {
     pub value: Value,
 }
 
-#[derive(Drop)]
+#[derive(Clone, Copy)]
 pub struct Registers {
     pub cells: [Register; 16],
 }

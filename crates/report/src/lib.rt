@@ -18,7 +18,7 @@ use image::counts::MOST;
 use layout::places;
 
 // References are the sum of a barrier's counts, free what is left of the cells.
-#[derive(Drop)]
+#[derive(Clone, Copy)]
 pub struct Nursery {
     pub collections: u64,
     pub allocations: u64,
@@ -28,7 +28,7 @@ pub struct Nursery {
     pub promotions: u64,
 }
 
-#[derive(Drop)]
+#[derive(Clone, Copy)]
 pub struct Elder {
     pub collections: u64,
     pub allocations: u64,
@@ -36,7 +36,7 @@ pub struct Elder {
     pub references: u64,
 }
 
-#[derive(Drop)]
+#[derive(Clone, Copy)]
 pub struct Statistics {
     pub nursery: Nursery,
     pub elder: Elder,
@@ -44,7 +44,7 @@ pub struct Statistics {
 }
 
 // Refused has the number of the question that got a no.
-#[derive(Drop)]
+#[derive(Clone, Copy)]
 pub enum Reported {
     Taken(Statistics),
     Refused(u64),
@@ -183,7 +183,7 @@ pub fn report(image: &mut [u64]) -> Reported
 // ---- Into a record that the caller lends
 
 // The numbers and 0, or those that were there and the question's number.
-#[derive(Drop)]
+#[derive(Clone, Copy)]
 struct Filled {
     question: u64,
     statistics: Statistics,

@@ -42,7 +42,7 @@ pub fn held(lens: &[u64]) -> usize
 // ---- A cell is read or written
 
 // A cell's three words, or no cell.
-#[derive(Drop)]
+#[derive(Clone, Copy)]
 pub enum Old {
     At(u64, u64, u64),
     Nothing,
@@ -148,7 +148,7 @@ pub fn swap_old(
 // ---- Cells are placed
 
 // An allocation's words: where they start, how many they are, and how many are in use in all.
-#[derive(Drop)]
+#[derive(Clone, Copy)]
 struct Hole {
     at: usize,
     old: usize,
@@ -196,7 +196,7 @@ pub fn place_blank(w: &mut [u64], s: usize, at: usize, b: usize, len: usize)
 // ---- What is no member is dropped
 
 // How many of the cells' words are read, and how many of them are kept.
-#[derive(Drop)]
+#[derive(Clone, Copy)]
 struct Ends {
     src: usize,
     dst: usize,

@@ -21,7 +21,7 @@ const YOUNG: u64 = POINTER;
 // The first word of a pointer into the elder generation.
 pub const ELDER: u64 = POINTER + HEAP_STEP;
 
-#[derive(Drop)]
+#[derive(Clone, Copy)]
 pub struct Pointer {
     pub heap: u8,
     pub base: u64,
@@ -29,7 +29,7 @@ pub struct Pointer {
 }
 
 // A Float keeps its 64 bits beside the number: of a NaN the number alone does not tell them.
-#[derive(Drop)]
+#[derive(Clone, Copy)]
 pub enum Value {
     Uninitialized,
     Int(i64),
@@ -39,14 +39,14 @@ pub enum Value {
     Pointer(Pointer),
 }
 
-#[derive(Drop)]
+#[derive(Clone, Copy)]
 pub struct Words {
     pub tag: u64,
     pub payload: u64,
     pub offset: u64,
 }
 
-#[derive(Drop)]
+#[derive(Clone, Copy)]
 pub enum Decoded {
     Valid(Value),
     Invalid,

@@ -1,0 +1,16 @@
+use native.Mathlib.Omega.{arith}
+use lib.ListN.{length-set}
+use Rattle.fields.proofs.Parts.{sized-in}
+use Rattle.fields.proofs.Counts.{count-put}
+use Rattle.fields.proofs.put_count.Goals as goal
+
+pub bounds-image-count_place : goal.bounds-image-count_place
+bounds-image-count_place c = omega (arith, (sized-in c.requires.image).long)
+
+pub bounds-image-flag_place : goal.bounds-image-flag_place
+bounds-image-flag_place c = simp length-set (omega (arith, (sized-in c.requires.image).long))
+
+pub returns : goal.returns
+returns c =
+    let pre = c.requires in
+    count-put _ _ _ pre.1.0 pre.1.1 c.count_place.ensures.0 c.flag_place.ensures.0

@@ -1,0 +1,32 @@
+use borrow.Author.Rules.{rules}
+use native.Mathlib.Omega.{arith}
+use Rattle.fields.proofs.Parts.{sized-in, header-kept, n-read}
+use Rattle.fields.proofs.Turned.{restart-turns}
+use Rattle.fields.proofs.restart.Goals as goal
+
+pub slot_lengths-behind-requires : goal.slot_lengths-behind-requires
+slot_lengths-behind-requires c =
+    let pre = c.requires in
+    let n = c.size_n.ensures in
+    omega (arith, n-read pre.0 n, (sized-in pre.0).bounds.n)
+
+pub slice_bounds-zero_from-end : goal.slice_bounds-zero_from-end
+slice_bounds-zero_from-end c =
+    let pre = c.requires in
+    let n = c.size_n.ensures in
+    omega (arith, n-read pre.0 n, (sized-in pre.0).long)
+
+pub bounds-image-4 : goal.bounds-image-4
+bounds-image-4 c = search (header-kept c.requires.image, rules)
+
+pub bounds-image-5 : goal.bounds-image-5
+bounds-image-5 c = search (header-kept c.requires.image, rules)
+
+pub bounds-image-6 : goal.bounds-image-6
+bounds-image-6 c = search (header-kept c.requires.image, rules)
+
+pub returns : goal.returns
+returns c =
+    let pre = c.requires in
+    let n = c.size_n.ensures in
+    restart-turns n c.slot_lengths-behind.ensures pre.1.0 pre.1.1 c.zero_from.ensures

@@ -1,0 +1,8 @@
+use Rattle.fields.proofs.Turned.{cell_room, cell-read}
+use Rattle.fields.proofs.young_cell.Goals as goal
+
+pub cell_at-requires : goal.cell_at-requires
+cell_at-requires c = cell_room _ c.young_part-p.ensures _ c.requires.i_bound c.requires.image
+
+pub returns : goal.returns
+returns c = cell-read _ c.young_part-p.ensures _ c.requires.i_bound _ c.cell_at.ensures

@@ -1,0 +1,105 @@
+use mathlib.Core.Path.{refl}
+use mathlib.Core.List.{List, [], ◌∷◌}
+use Prim.Native.Nat.{ℕ, ◌<◌, ◌^◌}
+use lib.ListN.{length}
+use seplogic.Ra.Ura.{Ura}
+use mir.Syntax.{named, w64}
+use mir.Val.{Val, vint}
+use base.Logic.{SProp, ent, emp, via, fst∗}
+use base.Fml.{Lft, Share, ftrue, flft}
+use prog.Memory.{Memory}
+use prog.Routine.{Routine}
+use prog.Wp.{Calls, Loops, Tables, WpFn}
+use types.Logic.{Logic}
+use contract.Monad.{Fun}
+use contract.Running.{tables, tables_of}
+use types.Kit.{‵, ◌⊛◌, ◌$◌, ◌∵◌, !, qed, by, move, use1, split, fsplit, fjoin, suffices, frame}
+use types.Part.{agg}
+use types.Run.{look, init, forget, stop, from, and_then, no_more, assigns, returns, enter, alloc1, alloc0, params1, pass1, pass0, free1, free0}
+use sound.WpLaws.{WpFn-mono}
+use denote.RattleType.{RattleType, owns}
+use denote.Laws.{Is}
+use denote.Plain.{uint_Makes, uint_vals, uint_Tells}
+use denote.Builtin.{u8, usize}
+use denote.Ref.{Bor}
+use denote.Exit.{yes}
+use denote.Signature.{plain, named_lft}
+use denote.Slice.{slice_val, ShrSlice, shr_slice_vals, shr_slice_Tells, shr_slice_Lawful, shr_slice_copy}
+use denote.Steps.{nothing, owned}
+use denote.Struct.Rest.{own_shut}
+use denote.Triple.Entry.{Vals, on_entry}
+use denote.Triple.Spec.{Meets, triple_of}
+use denote.Triple.Table.{entered}
+use denote.Triple.Walked.{says, Stays, stay_none, stay_none_slice, walk_of, Goes-none, Goes-none_slice, Walks, ends_at, walked, walk_Meets}
+use Rattle.reader.specs.declared.Reader.{Reader}
+use Rattle.reader.proofs.Walked.{gives}
+use Rattle.reader.specs.contracts.Reader as T
+use Rattle.reader.proofs.Reader.TheLaws as T'
+use Rattle.reader.specs.contracts.Reader.new as new
+use Rattle.reader.specs.contracts.Reader.new.Key.{name as #new}
+use Rattle.reader.proofs.Reader.new.Statement as stated
+use Rattle.reader.proofs.Reader.new.Code as code
+
+abbrev stayed : Stays (new.ended).signature.params (new.ended).kept
+stayed = (stay_none_slice (0 ∷ []) tt (plain (λ _. u8)) yes, (stay_none (λ _. usize) yes, tt))
+
+module _ {M : Type 1} {𝓤 : Ura M} (𝓛 : Logic 𝓤) (mem : Memory → SProp 𝓤) (run : Routine → Fun 𝓤) (κ : Lft) (q : Share) (s : Bor (List ℕ)) (n : ℕ) (fits : n < 2 ^ 64) where
+  open 𝓛 use {H}
+
+  abbrev Slice : RattleType
+  Slice = ShrSlice (named 0) κ u8
+
+  abbrev v : Val
+  v = slice_val s.ref_ptr (length s.now)
+
+  abbrev a : Bor (List ℕ) × (ℕ × Unit {0})
+  a = (s, (n, tt))
+
+  abbrev vals : Vals new.signature (κ, tt)
+  vals = (v ∷ [], (vint w64 n ∷ [], tt))
+
+  abbrev made : Reader
+  made = record { file = s; at = n }
+
+  abbrev Post : Val → SProp 𝓤
+  Post = (walk_of 𝓛 new.ended stayed (new.clauses 𝓛 mem run)).post (((κ, tt), (q, tt), tt, a, vals), tt)
+
+  exits : ent 𝓤 (on_entry 𝓛 new.signature (κ, tt) (q, tt) a vals) (Post (T'.lowered made))
+  exits =
+      qed 𝓛 ((‵ (flft κ q) ⊛ ‵ ftrue) ∷ ‵ (owns (Slice ∷ usize ∷ []) a vals) ∷ []) ∵
+      suffices ! _ (ends_at 𝓛 new.ended stayed (new.clauses 𝓛 mem run) (((κ, tt), (q, tt), tt, a, vals), tt) (T'.lowered made) made (tt, (tt, tt)) (tt, (tt, tt))) $ says ! (refl, refl) $ frame ! $
+      -- [what the slice owns; what the place owns], which stay with the parameters
+      fsplit ! $ use1 𝓛 (‵ (Slice.own s (v ∷ [])) ⊛ ‵ (Slice.own s (v ∷ []))) ((shr_slice_copy 𝓛 (named 0) κ u8).twice s (v ∷ [])) $ split ! $ move ! (0 ∷ 2 ∷ []) $ fjoin ! $ frame ! $
+      -- [what the slice owns], and what the place owns anew
+      nothing ! $ owned ! usize (Is usize) (uint_Makes 𝓛 w64) n _ (refl, fits) $ fjoin ! $ move ! (1 ∷ 0 ∷ []) $ fjoin ! $
+      by ! (own_shut 𝓛 (T.the_type (named_lft 1 0 tt (κ, tt))) (T'.the_laws (named_lft 1 0 tt (κ, tt))) a)
+
+  walk : (C : Calls 𝓤 H) (Λ : Loops 𝓤 H) → Is Slice s (v ∷ [])
+      → ent 𝓤 (on_entry 𝓛 new.signature (κ, tt) (q, tt) a vals) (WpFn 𝓤 H C Λ code.function (v ∷ vint w64 n ∷ []) Post)
+  walk C Λ is =
+      let wt = ((shr_slice_Lawful 𝓛 (named 0) κ u8).typed s (v ∷ []) is).0 in
+      qed 𝓛 ((‵ (flft κ q) ⊛ ‵ ftrue) ∷ ‵ (owns (Slice ∷ usize ∷ []) a vals) ∷ []) ∵ enter ! C Λ code.function (v ∷ vint w64 n ∷ []) _ $
+      alloc1 ! (λ l₀. alloc1 ! (λ l₁. alloc1 ! (λ l₂. alloc0 ! $ params1 ! $ pass1 ! (init ! 2 refl wt) $ pass1 ! (init ! 0 refl (tt, record { fits = fits })) $ pass0 ! $
+      -- [_2; …; _1; …; _0; …]
+      assigns ! (agg ! (and_then ! (gives ! 2 v refl) (and_then ! (gives ! 0 (vint w64 n) refl) (no_more !)))) (from ! (stop !)) (init ! 4 refl (tt, (wt.1, (record { fits = fits }, tt)))) $
+      returns ! (look ! 4 refl) $ forget ! 0 refl $ forget ! 2 refl $ forget ! 4 refl $ move ! (4 ∷ 5 ∷ []) $ free1 ! $ move ! (2 ∷ 3 ∷ []) $ free1 ! $ free1 ! $ free0 ! $ by ! exits)))
+
+module _ {M : Type 1} {𝓤 : Ura M} (𝓛 : Logic 𝓤) (mem : Memory → SProp 𝓤) (run : Routine → Fun 𝓤) where
+  open 𝓛 use {H}
+
+  new_walks : (C : Calls 𝓤 H) (Λ : Loops 𝓤 H) → Walks 𝓛 new.ended stayed (WpFn 𝓤 H C Λ code.function) (new.clauses 𝓛 mem run)
+  new_walks C Λ =
+      walked 𝓛 new.ended stayed (new.clauses 𝓛 mem run) (WpFn 𝓤 H C Λ code.function) (λ κs. (shr_slice_vals, (uint_vals w64, tt))) (λ κs. (shr_slice_Tells (named 0) κs.0 u8, (uint_Tells w64, tt)))
+      (λ κs qs bounds a g are. via 𝓤 _ (fst∗ 𝓤 _ (emp 𝓤)) (walk 𝓛 mem run κs.0 qs.0 a.0 a.1.0 are.1.0.1 C Λ are.0))
+
+  new_meets : (𝓣 : Tables 𝓤 H) → Meets 𝓛 new.signature (WpFn 𝓤 H 𝓣.C 𝓣.Λ code.function) (new.spec 𝓛 mem run)
+  new_meets 𝓣 =
+      walk_Meets 𝓛 new.ended stayed (Goes-none_slice 𝓛 1 (0 ∷ []) tt (plain (λ _. u8)) yes, (Goes-none 𝓛 1 (λ _. usize) yes (λ κs x f. refl), tt)) (new.clauses 𝓛 mem run)
+      (WpFn 𝓤 H 𝓣.C 𝓣.Λ code.function) (WpFn-mono 𝓤 H 𝓛.laws 𝓣 code.function) (new_walks 𝓣.C 𝓣.Λ)
+
+pub new_spec : {M : Type 1} → stated.statement M
+unfolding code.routine tables_of
+new_spec 𝓤 𝓛 𝓜 𝓡 =
+    entered 𝓤 𝓛.H (triple_of 𝓛 new.signature (new.spec 𝓛 𝓜.mem 𝓡.run))
+    (tables 𝓤 𝓛.H 𝓜 𝓡 code.env).C (tables 𝓤 𝓛.H 𝓜 𝓡 code.env).Λ #new code.function (code.unfolded 𝓤 𝓛.H 𝓜 𝓡)
+    (new_meets 𝓛 𝓜.mem 𝓡.run (tables_of 𝓤 𝓛.H 𝓜 (tables 𝓤 𝓛.H 𝓜 𝓡 code.env)))

@@ -1,0 +1,16 @@
+use Prim.Native.Nat.{◌-◌}
+use lib.ListN.{length, take}
+use Rattle.model.specs.Reach.{enter}
+use Rattle.model.specs.Records.{same_ptr}
+use Rattle.model.specs.Lists.{places}
+use Rattle.model.specs.Nursery.{matched}
+use Rattle.trace.specs.Places.{base_at}
+use Rattle.trace.specs.Words.{members}
+use Rattle.trace.proofs.Entering.{Entering}
+use Rattle.trace.proofs.enter_matched.Given as goal
+
+abbrev pub invariant-loop-b : goal.invariant-loop-b
+invariant-loop-b l = Entering (base_at l.own (take l.mask_count l.masks) l.lens) (length l.lens) (enter same_ptr (members l.count l.initial.list) (matched l.own (take l.mask_count l.masks) (places 0 l.lens))) (length l.initial.list) l.b l.list l.n
+
+abbrev pub decreases-loop-b : goal.decreases-loop-b
+decreases-loop-b l = length l.lens - l.b

@@ -1,0 +1,50 @@
+use mathlib.Core.Path.{◌≡◌, sym, ap, ◌∙◌}
+use mathlib.Core.Bool.{Bool, true, false}
+use mathlib.Core.List.{List, [], ◌∷◌, ◌++◌}
+use Prim.Native.Nat.{ℕ, ◌+◌, ◌*◌, ◌^◌, ◌≤◌, ◌<◌}
+use native.Mathlib.Omega.{arith}
+use lib.ListN.{length, length-append}
+use mir.Val.{Fits}
+use mir.Syntax.{w64}
+use Rattle.model.specs.Reach.{mem, add}
+use Rattle.model.specs.Records.{Ptr, same_ptr}
+use Rattle.trace.specs.Words.{members, stored, Room}
+use Rattle.trace.proofs.Entries.{length-members, members-stored}
+use Rattle.trace.proofs.Closure.{add-old, add-new, add-sized}
+use Rattle.trace.proofs.enter_one.Goals as goal
+
+module _ (w : List ℕ) (n : ℕ) (p : Ptr) (room : Room w (add same_ptr (members n w) p)) where
+  room-count : 3 * n ≤ length w
+  room-count = omega (arith, room.fits, (add-sized same_ptr (members n w) p).0, length-members n w)
+
+  -- r is what `find` says
+  module _ {r : Bool} (said : r ≡ mem same_ptr p (members n w)) where
+    entered-old : r ≡ true → members n w ≡ add same_ptr (members n w) p
+    entered-old e = sym (add-old same_ptr (members n w) p (sym said ∙ e))
+
+    added : r ≡ false → add same_ptr (members n w) p ≡ members n w ++ p ∷ []
+    added e = add-new same_ptr (members n w) p (sym said ∙ e)
+
+    room-new : r ≡ false → 3 * n + 2 < length w
+    room-new e = omega (arith, room.fits, simp length-append at (ap length (added e)), length-members n w)
+
+    count_fits : r ≡ false → length w < 2 ^ 64 → Fits w64 (n + 1)
+    count_fits e h = omega (arith, room-new e)
+
+    entered-new : r ≡ false → {v : List ℕ} → v ≡ stored w n p → members (n + 1) v ≡ add same_ptr (members n w) p
+    entered-new e s = rw s (members-stored w n p (room-new e)) ∙ sym (added e)
+
+pub find-requires : goal.find-requires
+find-requires c = search room-count
+
+pub returns-then-find : goal.returns-then-find
+returns-then-find c = search entered-old
+
+pub store-requires : goal.store-requires
+store-requires c = search room-new
+
+pub overflow_add-result : goal.overflow_add-result
+overflow_add-result c = search count_fits
+
+pub returns : goal.returns
+returns c = search entered-new

@@ -1,0 +1,12 @@
+use Rattle.trace.proofs.Places.{own-one, own-none}
+use Rattle.trace.proofs.Entering.{one-room, one-entered, none-entered}
+use Rattle.trace.proofs.enter_own.Goals as goal
+
+pub returns-then-cells-at : goal.returns-then-cells-at
+returns-then-cells-at c = search (none-entered, own-none)
+
+pub enter_one-requires : goal.enter_one-requires
+enter_one-requires c = search (one-room, own-one)
+
+pub returns : goal.returns
+returns c = search (one-entered, own-one)
