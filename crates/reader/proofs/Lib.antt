@@ -1,6 +1,6 @@
 -- Fields: bytes joined to a number. Signs: the signed number of a word. Opcodes: the bytes that are known. Registers: tests of
 -- a command's registers. Places: what stands at a place of a file. Progress: a file read command by command. Lossless: operands
--- are known from their command. Walked: operands in the walks of the reader's functions.
+-- are known from their command.
 pub mod Fields
 pub mod Signs
 pub mod Opcodes
@@ -8,4 +8,3 @@ pub mod Registers
 pub mod Places
 pub mod Progress
 pub mod Lossless
-pub mod Walked

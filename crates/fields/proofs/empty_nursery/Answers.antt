@@ -7,21 +7,21 @@ pub overflow_add-collections : goal.overflow_add-collections
 overflow_add-collections c =
     let pre = c.requires in
     let collections = c.young_collections-collections.ensures in
-    omega (arith, most-is, pre.1.0, collections.reads _ pre.0)
+    omega (arith, most-is, pre.image_bound.0, collections.reads _ pre.image)
 
 pub overflow_add-moved : goal.overflow_add-moved
 overflow_add-moved c =
     let pre = c.requires in
     let promotions = c.promotions.ensures in
-    omega (arith, most-is, pre.1.1, promotions.reads _ pre.0)
+    omega (arith, most-is, pre.image_bound.1, promotions.reads _ pre.image)
 
 pub restart-requires : goal.restart-requires
 restart-requires c =
     let pre = c.requires in
     let collections = c.young_collections-collections.ensures in
     let promotions = c.promotions.ensures in record {
-        image = next-image c.clear_young_barrier.ensures pre.0;
-        collections_le_most = (omega (arith, pre.1.0, collections.reads _ pre.0), omega (arith, pre.1.1, promotions.reads _ pre.0));
+        image = next-image c.clear_young_barrier.ensures pre.image;
+        collections_le_most = (omega (arith, pre.image_bound.0, collections.reads _ pre.image), omega (arith, pre.image_bound.1, promotions.reads _ pre.image));
     }
 
 pub returns : goal.returns

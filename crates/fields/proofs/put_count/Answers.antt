@@ -13,4 +13,4 @@ bounds-image-flag_place c = simp length-set (omega (arith, (sized-in c.requires.
 pub returns : goal.returns
 returns c =
     let pre = c.requires in
-    count-put _ _ _ pre.1.0 pre.1.1 c.count_place.ensures.0 c.flag_place.ensures.0
+    count-put _ _ _ pre.k_bound.0 pre.k_bound.1 c.count_place.ensures.0 c.flag_place.ensures.0

@@ -6,14 +6,14 @@ use Rattle.fields.proofs.put_young_cell.Goals as goal
 pub overflow_mul-i : goal.overflow_mul-i
 overflow_mul-i c =
     let pre = c.requires in
-    omega (arith, n-is pre.0, (sized-in pre.0).bounds.n, pre.1.0)
+    omega (arith, n-is pre.image, (sized-in pre.image).bounds.n, pre.i_bound)
 
 pub copy_words-requires : goal.copy_words-requires
 copy_words-requires c =
     let pre = c.requires in
-    omega (arith, cell_room _ c.young_part-p.ensures c.args.i pre.1.0 pre.0, pre.1.1.0)
+    omega (arith, cell_room _ c.young_part-p.ensures c.args.i pre.i_bound pre.image, pre.cell_len.0)
 
 pub returns : goal.returns
 returns c =
     let pre = c.requires in
-    cell-put _ c.young_part-p.ensures c.args.i pre.1.0 _ pre.1.1.0 pre.1.1.1 c.copy_words.ensures
+    cell-put _ c.young_part-p.ensures c.args.i pre.i_bound _ pre.cell_len.0 pre.cell_len.1 c.copy_words.ensures

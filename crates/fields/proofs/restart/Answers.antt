@@ -8,13 +8,13 @@ pub slot_lengths-behind-requires : goal.slot_lengths-behind-requires
 slot_lengths-behind-requires c =
     let pre = c.requires in
     let n = c.size_n.ensures in
-    omega (arith, n-read pre.0 n, (sized-in pre.0).bounds.n)
+    omega (arith, n-read pre.image n, (sized-in pre.image).bounds.n)
 
 pub slice_bounds-zero_from-end : goal.slice_bounds-zero_from-end
 slice_bounds-zero_from-end c =
     let pre = c.requires in
     let n = c.size_n.ensures in
-    omega (arith, n-read pre.0 n, (sized-in pre.0).long)
+    omega (arith, n-read pre.image n, (sized-in pre.image).long)
 
 pub bounds-image-4 : goal.bounds-image-4
 bounds-image-4 c = search (header-kept c.requires.image, rules)
@@ -29,4 +29,4 @@ pub returns : goal.returns
 returns c =
     let pre = c.requires in
     let n = c.size_n.ensures in
-    restart-turns n c.slot_lengths-behind.ensures pre.1.0 pre.1.1 c.zero_from.ensures
+    restart-turns n c.slot_lengths-behind.ensures pre.collections_le_most.0 pre.collections_le_most.1 c.zero_from.ensures
