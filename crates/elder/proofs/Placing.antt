@@ -53,13 +53,9 @@ module _ (cs : List Cell) {w : List ℕ} {b : Barrier} (r : Reads (λ h. h.old.b
   count-refused q a = record { does = λ h i. rw (count-is h i, a) refl }
 
 -- where none crosses, nothing changes
-pub count-quiet : (src : List ℕ) {w : List ℕ} {r : Bool} → whole_cells src ≡ true → r ≡ any_crossing 1 src → not r ≡ true → Does (count_step (cells_in src)) w (counting_answer counting.Done) w
+pub count-quiet : (src : List ℕ) {w : List ℕ} {r : Bool} → whole_cells src ≡ true → r ≡ any_crossing 1 src → r ≡ false → Does (count_step (cells_in src)) w (counting_answer counting.Done) w
 unfolding count_step counting_answer with_old with_old_bar
-count-quiet src {r = r} whole e q = record { does = λ h i. rw (quiet (steps-in 1) src whole (sym e ∙ is_false r q) h.old.bar) (refl, i) }
-  where
-    is_false : (t : Bool) → not t ≡ true → t ≡ false
-    is_false true h = absurd (true≢false (sym h))
-    is_false false h = refl
+count-quiet src {r = r} whole e q = record { does = λ h i. rw (quiet (steps-in 1) src whole (sym e ∙ q) h.old.bar) (refl, i) }
 
 -- `place` and `place_new`: room for k cells, and these put
 

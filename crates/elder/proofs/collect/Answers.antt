@@ -1,0 +1,5 @@
+use Rattle.elder.proofs.Sweeps.{with-members}
+use Rattle.elder.proofs.collect.Goals as goal
+
+pub returns : goal.returns
+returns c = with-members _ _ _ c.members-count.ensures.are c.collect_with.ensures.does

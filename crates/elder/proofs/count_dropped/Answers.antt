@@ -1,0 +1,17 @@
+use borrow.Author.Rules.{rules}
+use Rattle.layout.proofs.Tail.{image-says-sized, parts-formed}
+use Rattle.elder.proofs.Lent.{dropped-read}
+use Rattle.elder.proofs.count_dropped.Goals as goal
+
+pub layout_of-l-requires : goal.layout_of-l-requires
+layout_of-l-requires c = search (image-says-sized, rules)
+
+pub count_dropped-requires : goal.count_dropped-requires
+count_dropped-requires c = record {
+        packed = parts-formed c.requires.image c.layout_of-l.ensures;
+        count_in_bounds = search rules;
+    }
+
+pub returns : goal.returns
+returns c =
+    dropped-read c.layout_of-l.ensures c.args.count c.args.list.now c.old_barrier-b.ensures c.count_dropped.ensures.counted

@@ -1,0 +1,17 @@
+use Rattle.elder.proofs.Placing.{place_none, place-asks, place-done, place-refused}
+use Rattle.elder.proofs.place.Goals as goal
+
+pub returns-in_default : goal.returns-in_default
+returns-in_default c =
+    place_none c.args.src.now c.requires.src_value _ _ c.room_for.ensures c.in_default.is
+
+pub put_cells-requires : goal.put_cells-requires
+put_cells-requires c = let all = (place-asks c.args.src.now c.requires.src_value _ _ c.room_for.ensures c.in-At.is c.count_in.ensures c.in-Done.is c.requires.image) in record { image = all.0; src_len = all.1.0; b_value = all.1.1 }
+
+pub returns-in-Done : goal.returns-in-Done
+returns-in-Done c =
+    place-done c.args.src.now c.requires.src_value _ _ c.room_for.ensures c.in-At.is c.count_in.ensures c.in-Done.is c.put_cells.ensures
+
+pub returns-in-Refused : goal.returns-in-Refused
+returns-in-Refused c =
+    place-refused c.args.src.now c.requires.src_value _ _ c.room_for.ensures c.in-At.is c.count_in.ensures c.in-Refused.is

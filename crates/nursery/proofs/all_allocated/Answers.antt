@@ -1,0 +1,9 @@
+use Rattle.layout.proofs.Tail.{image-says-sized}
+use Rattle.nursery.proofs.Parts.{allocated-read}
+use Rattle.nursery.proofs.all_allocated.Goals as goal
+
+pub layout_of-l-requires : goal.layout_of-l-requires
+layout_of-l-requires c = image-says-sized c.requires.image
+
+pub returns : goal.returns
+returns c = allocated-read c.layout_of-l.ensures _ c.all_allocated.ensures
