@@ -1,6 +1,3 @@
 pub mod Taking
 pub mod Clearing
 pub mod Filling
-pub mod Doors
-pub mod Into
-pub mod Lent

@@ -1,0 +1,35 @@
+use mathlib.Core.Path.{◌≡◌, refl, sym, ap, ◌∙◌}
+use mir.Syntax.{w64}
+use mir.Val.{of_z}
+use mir.ValLaws.{to_z-of_z}
+use Rattle.model.specs.Image.{decode}
+use Rattle.model.specs.Collector.{read}
+use Rattle.trace.specs.Words.{pointer}
+use Rattle.access.specs.Access.{loaded_cell}
+use Rattle.access.proofs.Writes.{left-refused, old-read, old-written, old-unread}
+use Rattle.access.proofs.write_old.Goals as goal
+use Rattle.access.proofs.write_old.Goals.{After-read_old, After-unsigned}
+
+was_read : (c : After-read_old) → loaded_cell c.read_old.result ≡ read (decode c.args.image.now) (pointer 1 c.args.base (of_z w64 c.args.offset))
+was_read c =
+    rw (to_z-of_z w64 c.args.offset c.ranges.offset) at c.read_old.ensures.cell
+
+word : (c : After-unsigned) → c.unsigned.result ≡ of_z w64 c.args.offset
+word c =
+    c.unsigned.ensures ∙ ap (of_z w64) (to_z-of_z w64 c.args.offset c.ranges.offset)
+
+pub store_old-requires : goal.store_old-requires
+unfolding loaded_cell
+store_old-requires c = let all = (let t = old-read c.args.image.now c.args.base (of_z w64 c.args.offset) (sym (was_read (goal.at.store_old-requires c).After-read_old) ∙ ap loaded_cell c.in-Value.is) in
+    rw (word c) (c.requires.image, (t.0, (t.1, c.requires.cell_value)))) in record { image = all.0; offset_in_bounds = all.1.0; value = all.1.1.0; cell_value = all.1.1.1 }
+
+pub returns-in-Value : goal.returns-in-Value
+unfolding loaded_cell
+returns-in-Value c =
+    let t = old-read c.args.image.now c.args.base (of_z w64 c.args.offset) (sym (was_read (goal.at.returns-in-Value c).After-read_old) ∙ ap loaded_cell c.in-Value.is) in
+    rw (word (goal.at.returns-in-Value c).After-unsigned, old-written c.args.image.now c.args.base (of_z w64 c.args.offset) _ t.0) at c.store_old.ensures
+
+pub returns-in-Refused : goal.returns-in-Refused
+unfolding loaded_cell
+returns-in-Refused c =
+    left-refused _ (old-unread c.args.image.now c.args.base (of_z w64 c.args.offset) _ _ (sym (was_read (goal.at.returns-in-Refused c).After-read_old) ∙ ap loaded_cell c.in-Refused.is)) refl

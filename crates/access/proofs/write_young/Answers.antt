@@ -1,0 +1,33 @@
+use mathlib.Core.Path.{◌≡◌, refl, sym, ap, ◌∙◌}
+use mir.Syntax.{w64}
+use mir.Val.{of_z}
+use mir.ValLaws.{to_z-of_z}
+use Rattle.model.specs.Image.{decode}
+use Rattle.model.specs.Collector.{young_at}
+use Rattle.trace.specs.Words.{pointer}
+use Rattle.access.specs.Access.{place_answer}
+use Rattle.access.proofs.Answers.{young-inside}
+use Rattle.access.proofs.Writes.{left-refused, young-written, young-nowhere}
+use Rattle.access.proofs.write_young.Goals as goal
+use Rattle.access.proofs.write_young.Goals.{After-index}
+
+found : (c : After-index) → place_answer c.index.result ≡ young_at (decode c.args.image.now) (pointer 0 c.args.base (of_z w64 c.args.offset))
+found c =
+    rw (to_z-of_z w64 c.args.offset c.ranges.offset) at (c.index.ensures (decode c.args.image.now) (c.size_n-n.ensures.reads _ c.requires.image))
+
+pub store_young-requires : goal.store_young-requires
+store_young-requires c = record {
+        image = c.requires.image;
+        i_bound = young-inside _ _ _ (found (goal.at.store_young-requires c).After-index) c.in-At.is;
+        cell_value = c.requires.cell_value;
+    }
+
+pub returns-in-At : goal.returns-in-At
+unfolding place_answer
+returns-in-At c =
+    rw (young-written c.args.image.now c.args.base (of_z w64 c.args.offset) _ _ (sym (found (goal.at.returns-in-At c).After-index) ∙ ap place_answer c.in-At.is)) at c.store_young.ensures
+
+pub returns-in-Refused : goal.returns-in-Refused
+unfolding place_answer
+returns-in-Refused c =
+    left-refused _ (young-nowhere c.args.image.now c.args.base (of_z w64 c.args.offset) _ _ (sym (found (goal.at.returns-in-Refused c).After-index) ∙ ap place_answer c.in-Refused.is)) refl

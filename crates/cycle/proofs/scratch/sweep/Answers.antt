@@ -1,0 +1,32 @@
+use borrow.Author.Rules.{rules}
+use Rattle.cycle.proofs.Lending.{lists-room, old-list-long, swept-in}
+use Rattle.cycle.proofs.scratch.sweep.Goals as goal
+
+pub old_list_at-at-requires : goal.old_list_at-at-requires
+old_list_at-at-requires c = let all = (let room = lists-room c.requires.image c.args.roots.now c.args.scratch.now c.requires.roots_in_bounds in
+    search rules) in record { image = all.0; roots_bound = all.1 }
+
+pub offset_bounds-scratch-at : goal.offset_bounds-scratch-at
+offset_bounds-scratch-at c =
+    let room = lists-room c.requires.image c.args.roots.now c.args.scratch.now c.requires.roots_in_bounds in
+    search rules
+
+pub slice_bounds-collect-count : goal.slice_bounds-collect-count
+slice_bounds-collect-count c =
+    let room = lists-room c.requires.image c.args.roots.now c.args.scratch.now c.requires.roots_in_bounds in
+    search rules
+
+pub slice_bounds-collect-start : goal.slice_bounds-collect-start
+slice_bounds-collect-start c =
+    let room = lists-room c.requires.image c.args.roots.now c.args.scratch.now c.requires.roots_in_bounds in
+    search rules
+
+pub collect-requires : goal.collect-requires
+collect-requires c = record {
+        image = c.requires.image;
+        image_in_bounds = old-list-long c.requires.image c.args.roots.now c.args.scratch.now c.requires.roots_in_bounds c.old_list_at-at.ensures;
+    }
+
+pub returns : goal.returns
+returns c =
+    swept-in c.requires.image c.args.roots.now c.args.scratch.now c.requires.roots_in_bounds c.old_list_at-at.ensures c.collect.new.1.1.1.0 c.collect.ensures

@@ -1,0 +1,14 @@
+use borrow.Author.Rules.{rules}
+use Rattle.layout.proofs.Tail.{image-says-sized}
+use Rattle.report.proofs.Taking.{used-fits, old-taken}
+use Rattle.report.proofs.old_numbers.Goals as goal
+
+pub layout_of-l-requires : goal.layout_of-l-requires
+layout_of-l-requires c = search (image-says-sized, rules)
+
+pub in_use-cells-requires : goal.in_use-cells-requires
+in_use-cells-requires c = used-fits c.layout_of-l.ensures c.requires
+
+pub returns : goal.returns
+returns c =
+    old-taken c.layout_of-l.ensures _ c.old_collections-collections.ensures c.held-allocations.ensures c.in_use-cells.ensures c.old_references-references.ensures

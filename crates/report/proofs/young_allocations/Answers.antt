@@ -1,0 +1,13 @@
+use native.Mathlib.Omega.{arith}
+use Rattle.fields.proofs.Parts.{sized-in, n-read}
+use Rattle.report.proofs.Taking.{young-held}
+use Rattle.report.proofs.young_allocations.Goals as goal
+
+pub slot_lengths-end-requires : goal.slot_lengths-end-requires
+slot_lengths-end-requires c = omega (arith, n-read c.requires c.size_n.ensures, (sized-in c.requires).bounds.n)
+
+pub slice_bounds-held-end : goal.slice_bounds-held-end
+slice_bounds-held-end c = omega (arith, n-read c.requires c.size_n.ensures, (sized-in c.requires).long)
+
+pub returns : goal.returns
+returns c = young-held c.size_n.ensures c.slot_lengths-end.ensures c.held.ensures
