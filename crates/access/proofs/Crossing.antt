@@ -5,7 +5,6 @@ use mathlib.Core.List.{List, [], ◌∷◌}
 use Prim.Native.Nat.{ℕ, zero, suc, ◌%◌}
 use lib.Dec.{eqb}
 use lib.ListN.{get_or}
-use types.Run.{OneOf, miss}
 use denote.Enum.Declared.{tag_of}
 use borrow.Author.Tests.{eq-eqb, ne_eqb}
 use Rattle.model.specs.Records.{Cell, blank}
@@ -40,14 +39,14 @@ module _ (own : ℕ) (c : Cell) where
       go true = refl
       go false = refl
 
-pub plain-apart : (own : ℕ) (v : Value) → OneOf (0 ∷ 1 ∷ 2 ∷ 3 ∷ 4 ∷ []) (tag_of the_type v) → crosses own (value_cell v) ≡ false
+pub plain-apart : (own : ℕ) (v : Value) → ((p : Pointer) → v ≡ PointerV p → ⊥) → crosses own (value_cell v) ≡ false
 unfolding crosses value_cell blank
 plain-apart own Uninitialized h = refl
 plain-apart own (Int x) h = refl
 plain-apart own (BoolV x) h = refl
 plain-apart own (FloatV n x) h = refl
 plain-apart own (Char x) h = refl
-plain-apart own (PointerV p) h = absurd (miss (0 ∷ 1 ∷ 2 ∷ 3 ∷ 4 ∷ []) 5 tt h)
+plain-apart own (PointerV p) h = absurd (h p refl)
 
 module _ (own : ℕ) (v : Value) where
   pub pointer-crosses : (p : Pointer) → v ≡ PointerV p → not (eqb p.heap own) ≡ crosses own (value_cell v)

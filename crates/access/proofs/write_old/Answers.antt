@@ -20,8 +20,14 @@ word c =
 
 pub store_old-requires : goal.store_old-requires
 unfolding loaded_cell
-store_old-requires c = let all = (let t = old-read c.args.image.now c.args.base (of_z w64 c.args.offset) (sym (was_read (goal.at.store_old-requires c).After-read_old) ∙ ap loaded_cell c.in-Value.is) in
-    rw (word c) (c.requires.image, (t.0, (t.1, c.requires.cell_value)))) in record { image = all.0; offset_in_bounds = all.1.0; value = all.1.1.0; cell_value = all.1.1.1 }
+store_old-requires c =
+    let t = old-read c.args.image.now c.args.base (of_z w64 c.args.offset) (sym (was_read (goal.at.store_old-requires c).After-read_old) ∙ ap loaded_cell c.in-Value.is) in
+    record {
+        image = c.requires.image;
+        offset_in_bounds = rw (word c) t.0;
+        value = rw (word c) t.1;
+        cell_value = c.requires.cell_value;
+    }
 
 pub returns-in-Value : goal.returns-in-Value
 unfolding loaded_cell

@@ -17,20 +17,20 @@ narrow c = search rules
 pub returns-in_default : goal.returns-in_default
 returns-in_default c =
     let a = c.args in
-    apart-stores a.own a.v a.b (plain-apart a.own a.v c.in_default.in_default-own.keys2)
+    apart-stores a.own a.v a.b (plain-apart a.own a.v c.in_default.not-Pointer)
 
 pub returns-then-p-own : goal.returns-then-p-own
 returns-then-p-own c =
     let a = c.args in
         ⊎_elim
-    (λ w. apart-stores a.own a.v a.b (own-apart a.own a.v c.in-Pointer.p c.in-Pointer.is w.taken))
-    (λ w. absent-stores a.own a.v a.b w.1.taken)
-    c.then-p-own.branch
+    (λ w. apart-stores a.own a.v a.b (own-apart a.own a.v c.in-Pointer.p c.in-Pointer.is w))
+    (λ w. absent-stores a.own a.v a.b w.1)
+    c.then-p-own.either
 
 pub put_count-requires : goal.put_count-requires
 put_count-requires c = record {
         image = search rules;
-        k_bound = (omega arith, omega (arith, most-is, (narrow c).ranges));
+        k_bound = (omega arith, omega (arith, most-is, (narrow c).fits));
     }
 
 pub returns : goal.returns
