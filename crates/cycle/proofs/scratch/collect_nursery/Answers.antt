@@ -35,4 +35,4 @@ collect-requires c = record {
 
 pub returns : goal.returns
 returns c =
-    collected-in c.requires.image c.args.roots.now c.args.scratch.now c.requires.roots_in_bounds c.collect.new.1.1.1.0 c.old_barrier.ensures c.of-m.ensures.0 c.collect.ensures
+    collected-in c.requires.image c.args.roots.now c.args.scratch.now c.requires.roots_in_bounds c.collect.new.list c.old_barrier.ensures c.of-m.ensures.0 c.collect.ensures

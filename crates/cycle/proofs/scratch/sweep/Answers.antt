@@ -3,8 +3,9 @@ use Rattle.cycle.proofs.Lending.{lists-room, old-list-long, swept-in}
 use Rattle.cycle.proofs.scratch.sweep.Goals as goal
 
 pub old_list_at-at-requires : goal.old_list_at-at-requires
-old_list_at-at-requires c = let all = (let room = lists-room c.requires.image c.args.roots.now c.args.scratch.now c.requires.roots_in_bounds in
-    search rules) in record { image = all.0; roots_bound = all.1 }
+old_list_at-at-requires c =
+    let room = lists-room c.requires.image c.args.roots.now c.args.scratch.now c.requires.roots_in_bounds in
+    search rules
 
 pub offset_bounds-scratch-at : goal.offset_bounds-scratch-at
 offset_bounds-scratch-at c =
@@ -29,4 +30,4 @@ collect-requires c = record {
 
 pub returns : goal.returns
 returns c =
-    swept-in c.requires.image c.args.roots.now c.args.scratch.now c.requires.roots_in_bounds c.old_list_at-at.ensures c.collect.new.1.1.1.0 c.collect.ensures
+    swept-in c.requires.image c.args.roots.now c.args.scratch.now c.requires.roots_in_bounds c.old_list_at-at.ensures c.collect.new.list c.collect.ensures
