@@ -1,5 +1,4 @@
 """Facts about the model that `rt check` proves by computing, in a repository of the model and one crate of facts."""
-import os
 import re
 import shutil
 import subprocess
@@ -7,7 +6,7 @@ import sys
 from pathlib import Path
 
 # definitions outside the model that it computes with and that have to be opened by name
-LIBRARY = ("Rattle.std.specs.Float.Ieee.of_bits",)
+LIBRARY = ("lib.Ieee.of_bits",)
 
 COMPARING = """\
 same : List ℕ → List ℕ → Bool
@@ -47,8 +46,7 @@ class Workbench:
         """What the checker says of the facts row0, row1, …; nothing if all hold."""
         rows = (f"row{index} : {fact}\n{self.unfolding}\nrow{index} = refl\n" for index, fact in enumerate(facts))
         (self.folder / "crates" / "rows" / "proofs" / "Rows.antt").write_text("\n".join((self.header, *rows)))
-        environment = {**os.environ, "RT_CUT": "0"}
-        done = subprocess.run(["rt", "check"], cwd=self.folder / "crates" / "rows", env=environment, capture_output=True, text=True)
+        done = subprocess.run(["rt", "check"], cwd=self.folder / "crates" / "rows", capture_output=True, text=True)
         return done.stdout + done.stderr if done.returncode else ""
 
     def failing(self, facts: list[str]) -> list[int]:
