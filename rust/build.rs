@@ -10,7 +10,7 @@ fn main() {
     let library = if root.join("crates").is_dir() { built(root) } else { root.join("lib/libheap_c.a") };
     println!("cargo:rerun-if-changed={}", library.display());
 
-    // a copy, since whoever else runs rt writes the archive anew
+    // a copy, since whoever else runs ./build writes the archive anew
     let out = PathBuf::from(variable("OUT_DIR"));
     if let Err(problem) = fs::copy(&library, out.join("libheap_c.a")) {
         fail(&format!("no library {}: {problem}", library.display()));
@@ -21,13 +21,23 @@ fn main() {
 
 /// The library, built anew where `crates/` is newer.
 fn built(root: &Path) -> PathBuf {
-    for source in ["crates", "crates.txt"] {
-        println!("cargo:rerun-if-changed={}", root.join(source).display());
+    println!("cargo:rerun-if-changed={}", root.join("crates.txt").display());
+    // without each crate's `out`, where rt writes whenever it proves
+    let parts = inside(&root.join("crates")).into_iter().flat_map(|it| inside(&it));
+    for part in parts.filter(|it| !it.ends_with("out")) {
+        println!("cargo:rerun-if-changed={}", part.display());
     }
     match Command::new(root.join("build")).arg("heap_c").output() {
         Ok(ran) if ran.status.success() => root.join("target/staticlib/libheap_c.a"),
         Ok(ran) => fail(&format!("the heap was not built:\n{}", String::from_utf8_lossy(&ran.stderr))),
         Err(problem) => fail(&format!("{} cannot be run: {problem}", root.join("build").display())),
+    }
+}
+
+fn inside(folder: &Path) -> Vec<PathBuf> {
+    match fs::read_dir(folder) {
+        Ok(found) => found.flatten().map(|it| it.path()).collect(),
+        Err(problem) => fail(&format!("{}: {problem}", folder.display())),
     }
 }
 

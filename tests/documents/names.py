@@ -31,7 +31,7 @@ SHORT = {"M/": "crates/model/specs/", "S/": "crates/theorems/specs/", "P/": "cra
 PUBLISHED = set("clear_all dec dec_all inc on_write remembered_masks should_collect update_ptr update_remappings".split())
 PUBLISHED_FILES = {"lib.rs", "generation.rs", "error.rs", "01-scope.md", "02-change-requests.md"}
 
-NAME = r"[A-Za-z_][\w′]*(?:-[\w′]+)*"
+NAME = r"[A-Za-z_][\w']*(?:-[\w']+)*"
 SPAN = re.compile(r"`([^`]+)`")
 LINK = re.compile(r"\[[^\]]*\]\(([^)\s]+)\)")
 PATH = re.compile(r"(?<![\w/.-])(?:crates|tests|rust|examples|include|docs)/[\w./*+-]*")
@@ -53,13 +53,15 @@ def files() -> list[str]:
     """The repository's, without what is built."""
     found = []
     for folder, inner, names in os.walk(ROOT):
-        inner[:] = [name for name in inner if name not in (".git", "target", "__pycache__")]
+        inner[:] = [name for name in inner if name not in (".git", "target", "out", "__pycache__")]
         found += [str(Path(folder, name).relative_to(ROOT)) for name in names]
     return sorted(found)
 
 
-def words(text: str) -> set[str]:
-    return {*re.findall(NAME, text), *re.findall(r"[A-Za-z_][\w′]*", text)}
+def words(text: str, antt: bool = False) -> set[str]:
+    """A quote is a part of antt's names alone."""
+    text = text if antt else text.replace("'", " ")
+    return {*re.findall(NAME, text), *re.findall(r"[A-Za-z_][\w']*", text)}
 
 
 @cache
@@ -71,7 +73,7 @@ def code() -> dict[str, set[str]]:
         if path.suffix in (".md", ".edit") or path.name == Path(__file__).name or path.parts[0] == "docs":
             continue
         text = re.sub(COMMENT.get(path.suffix, r"\Z"), "", (ROOT / name).read_text(errors="replace"), flags=re.M)
-        found[name] = {*words(text), *path.parts, path.stem}
+        found[name] = {*words(text, path.suffix == ".antt"), *path.parts, path.stem}
     rust = {path.name: words(re.sub(COMMENT[".rs"], "", path.read_text())) for path in SOURCE.glob("src--*.rs.txt")}
     return found | (rust or {"published": PUBLISHED})
 

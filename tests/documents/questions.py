@@ -10,11 +10,11 @@ TESTS = "rust/tests/questions.rs"
 
 # of the library's calls, by the names that Numbered has
 CALLS = {
-    "callNumbers allocs": "alloc",
-    "callNumbers reads": "read",
-    "callNumbers writes": "write",
-    "reportNumbers": "report",
-    "newNumbers": "new",
+    "call_numbers allocs": "alloc",
+    "call_numbers reads": "read",
+    "call_numbers writes": "write",
+    "report_numbers": "report",
+    "new_numbers": "new",
 }
 
 
@@ -40,13 +40,13 @@ def rows() -> list[Row]:
 def askers() -> dict[int, set[str]]:
     """Who asks each question."""
     numbers = lists()
-    commands = {name.partition(" ")[2] for name in numbers if name.startswith("commandNumbers ")}
+    commands = {name.partition(" ")[2] for name in numbers if name.startswith("command_numbers ")}
     if not commands or not CALLS.keys() <= numbers.keys():
         raise Wrong(f"{NUMBERED}: not all lists are there: {', '.join(numbers)}")
     by_name = {f"call {call}": numbers[name] for name, call in CALLS.items()}
-    by_name |= {f"command {command}": [12, *numbers[f"commandNumbers {command}"]] for command in commands}
+    by_name |= {f"command {command}": [12, *numbers[f"command_numbers {command}"]] for command in commands}
     # what no list there has: the file itself, and the figure, which is no call on a heap
-    by_name |= {"the file": [12], "call figure": numbers["commandNumbers figure"]}
+    by_name |= {"the file": [12], "call figure": numbers["command_numbers figure"]}
     return {number: {name for name in by_name if number in by_name[name]} for number in set().union(*by_name.values())}
 
 

@@ -29,12 +29,12 @@ VALUE = "crates/value/src/lib.rt"
 REFUSALS = {
     "heap_words": "",
     "heap_scratch": "",
-    "heap_new": "newNumbers",
-    "heap_alloc": "callNumbers allocs",
-    "heap_read": "callNumbers reads",
-    "heap_write": "callNumbers writes",
-    "heap_report": "reportNumbers",
-    "heap_figure": "commandNumbers figure",
+    "heap_new": "new_numbers",
+    "heap_alloc": "call_numbers allocs",
+    "heap_read": "call_numbers reads",
+    "heap_write": "call_numbers writes",
+    "heap_report": "report_numbers",
+    "heap_figure": "command_numbers figure",
 }
 # what the functions named _formed do not ask
 OF_AN_IMAGE = {1, 2}
@@ -108,7 +108,7 @@ def is_same(kind: str, wanted: str) -> bool:
 
 def in_rattle() -> Functions:
     text = without_comments(text_of(SOURCE))
-    found = re.findall(r'#\[no_mangle\]\s+pub extern "C" fn (\w+)\(([^)]*)\) -> (\S+)', text)
+    found = re.findall(r'#\[unsafe\(no_mangle\)\]\s+pub extern "C" fn (\w+)\(([^)]*)\) -> (\S+)', text)
     if len(found) != text.count("no_mangle"):
         raise Unread(f"{SOURCE}: {text.count('no_mangle')} functions are marked no_mangle, {len(found)} understood")
     return {name: Function(rattle_parameters(listed), answers) for name, listed, answers in found}

@@ -24,18 +24,13 @@ DIGITS, SHOWN = 20, 5
 
 HEADER = f"""\
 -- Scenarios of library calls as facts about the model.
-use mathlib.Core.Path.{{_≡_, refl}}
-use mathlib.Core.Bool.{{Bool, true, false, _&&_, cond}}
-use mathlib.Core.List.{{List, [], _∷_, _++_}}
-use Prim.Native.Nat.{{ℕ, _+_, _*_, _%_}}
-use lib.Dec.{{eqb, leb}}
-use lib.ListN.{{take, drop, replicate, set}}
-use Rattle·model.specs.Res.{{Res, ok, refuse}}
-use Rattle·model.specs.Records.{{Ptr}}
-use Rattle·model.specs.Heap.{{Sizes, inBounds}}
-use Rattle·model.specs.Image.{{imageLength}}
-use Rattle·model.specs.Figure.{{Figure, figure as figureOf}}
-use Rattle·model.specs.Calls.{{Outcome, Call, allocs, reads, writes, call, reportCall, newCall, scratchLength}}
+use Rattle.std.specs.Prelude.{{◌≡◌, refl, Bool, true, false, ◌&&◌, cond, List, [], ◌∷◌, ◌++◌, ℕ, ◌+◌, ◌*◌, ◌%◌, eqb, leb, take, drop, replicate, set}}
+use Rattle.model.specs.Res.{{Res, ok, refuse}}
+use Rattle.model.specs.Records.{{Ptr}}
+use Rattle.model.specs.Heap.{{Sizes, in_bounds}}
+use Rattle.model.specs.Image.{{image_length}}
+use Rattle.model.specs.Figure.{{Figure, figure as figure_of}}
+use Rattle.model.specs.Calls.{{Outcome, Call, allocs, reads, writes, call, report_call, new_call, scratch_length}}
 
 {COMPARING}
 data Step : Type 0 where
@@ -60,22 +55,22 @@ pointer h b o = record {{ heap = h; base = b; off = o }}
 
 lengths : ℕ → ℕ → ℕ → ℕ → ℕ → List ℕ
 lengths n t s c r =
-    cond (inBounds (sizes n t s c)) (imageLength (sizes n t s c)) 0
-    ∷ cond (inBounds (sizes n 0 s c) && leb r 4096) (scratchLength (sizes n 0 s c) r) 0
+    cond (in_bounds (sizes n t s c)) (image_length (sizes n t s c)) 0
+    ∷ cond (in_bounds (sizes n 0 s c) && leb r 4096) (scratch_length (sizes n 0 s c) r) 0
     ∷ []
 
-figureWords : Res Figure → Res (List ℕ)
-figureWords (ok f) = ok (cond (f .negative) 1 0 ∷ f .thousandths ∷ [])
-figureWords (refuse q) = refuse q
+figure_words : Res Figure → Res (List ℕ)
+figure_words (ok f) = ok (cond f.negative 1 0 ∷ f.thousandths ∷ [])
+figure_words (refuse q) = refuse q
 
 did : Step → List ℕ → Outcome
 did (put i x) w = record {{ answer = ok []; image = set w i x; roots = [] }}
-did (new n t s c) w = newCall (sizes n t s c) w
+did (new n t s c) w = new_call (sizes n t s c) w
 did (alloc roots k scratch amount) w = call (allocs (roots ++ replicate k 0) scratch amount) w
 did (read h b o) w = call (reads (pointer h b o)) w
 did (write h b o value) w = call (writes (pointer h b o) value) w
-did report w = reportCall w
-did (figure bits) w = record {{ answer = figureWords (figureOf bits); image = w; roots = [] }}
+did report w = report_call w
+did (figure bits) w = record {{ answer = figure_words (figure_of bits); image = w; roots = [] }}
 did (measure n t s c r) w = record {{ answer = ok (lengths n t s c r); image = w; roots = [] }}
 
 -- the question's number, or 0, the answer's words and more
@@ -84,41 +79,41 @@ given (refuse q) more = q ∷ []
 given (ok ws) more = 0 ∷ (ws ++ more)
 
 left : Outcome → List ℕ
-left o = given (o .answer) (digest (digest 1 (o .image)) (o .roots) ∷ [])
+left o = given o.answer (digest (digest 1 o.image) o.roots ∷ [])
 
 shown : Step → Outcome → List ℕ
-shown (put i x) o = given (o .answer) []
+shown (put i x) o = given o.answer []
 shown (new n t s c) o = left o
 shown (alloc roots k scratch amount) o = left o
-shown (read h b o) x = given (x .answer) []
+shown (read h b o) x = given x.answer []
 shown (write h b o value) x = left x
 shown report o = left o
-shown (figure bits) o = given (o .answer) []
-shown (measure n t s c r) o = given (o .answer) []
+shown (figure bits) o = given o.answer []
+shown (measure n t s c r) o = given o.answer []
 
-andThen : (Outcome → List ℕ) → (List ℕ → List ℕ) → Outcome → List ℕ
-andThen now next o = now o ++ next (o .image)
+and_then : (Outcome → List ℕ) → (List ℕ → List ℕ) → Outcome → List ℕ
+and_then now next o = now o ++ next o.image
 
 run : List Step → List ℕ → List ℕ
 run [] w = digest 1 w ∷ []
-run (s ∷ steps) w = andThen (shown s) (run steps) (did s w)
+run (s ∷ steps) w = and_then (shown s) (run steps) (did s w)
 
 -- the answers alone
 answers : List Step → List ℕ → List ℕ
 answers [] w = []
-answers (s ∷ steps) w = andThen (λ o. given (o .answer) []) (answers steps) (did s w)
+answers (s ∷ steps) w = and_then (λ o. given o.answer []) (answers steps) (did s w)
 
 -- the image in the end
 final : List Step → List ℕ → List ℕ
 final [] w = w
-final (s ∷ steps) w = final steps (did s w .image)
+final (s ∷ steps) w = final steps (did s w).image
 
 -- the numbers one behind the other, the first lowest, below a leading 1
 digits : List ℕ → ℕ
 digits [] = 1
 digits (x ∷ xs) = x + {10**DIGITS} * digits xs
 """
-OPENED = "same digest sizes pointer lengths figureWords did given left shown andThen run answers final digits"
+OPENED = "same digest sizes pointer lengths figure_words did given left shown and_then run answers final digits"
 
 
 def ours(library: Library, scenario: Scenario) -> tuple[list[Gave], tuple[int, ...]]:

@@ -4,8 +4,8 @@ from dataclasses import dataclass, field
 
 TOKEN = re.compile(r"""
     (?P<space>\s+|--[^\n]*)
-  | (?P<number>0x[0-9A-Fa-f_]+|[0-9][0-9_]*(?![\w′]))
-  | (?P<proj>(?<=\s)\.(?:[A-Za-z][\w′-]*|[0-9]+))
+  | (?P<number>0x[0-9A-Fa-f_]+|[0-9][0-9_]*(?![\w']))
+  | (?P<proj>(?<=[\w')])\.(?:[A-Za-z][\w'-]*|[0-9]+))
   | (?P<op>>>=|\+\+|&&|\|\||[+*/%∷]|-(?=\s))
   | (?P<mark>[(){}\[\];,=λ↦|←→:×.])
   | (?P<name>[^\s(){}\[\];,.]+)
@@ -117,9 +117,6 @@ class Parser:
             node = Node("call", node.start, arguments[-1].end, [node] + arguments)
         if node.kind == "call" and node.parts[0].name == "elim":
             node = Node("choice", node.start, node.end, [node.parts[1]] + node.parts[2].parts)
-        while self.at < len(self.list) and self.list[self.at].kind == "proj":
-            token = self.take()
-            node = Node("proj", node.start, token.end, [node], token.text[1:])
         return node
 
     def starts_atom(self):
@@ -144,6 +141,13 @@ class Parser:
         return Node("steps", start, parts[-1].end, parts)
 
     def atom(self):
+        node = self.unit()
+        while self.at < len(self.list) and self.list[self.at].kind == "proj":
+            token = self.take()
+            node = Node("proj", node.start, token.end, [node], token.text[1:])
+        return node
+
+    def unit(self):
         token = self.take()
         if token.kind == "number":
             return Node("number", token.start, token.end, name=token.text)

@@ -6,20 +6,20 @@ import antt
 
 # what the definitions use of the libraries
 LIBRARY = """
-getD : List A → ℕ → A → A
+get_or : List A → ℕ → A → A
 set : List A → ℕ → A → List A
 replicate : ℕ → A → List A
 length : List A → ℕ
 take : ℕ → List A → List A
 drop : ℕ → List A → List A
 map : (A → B) → List A → List B
-getElem? : List A → ℕ → Option A
+get_elem? : List A → ℕ → Option A
 ltb : ℕ → ℕ → Bool
 leb : ℕ → ℕ → Bool
 eqb : ℕ → ℕ → Bool
 not : Bool → Bool
 cond : Bool → A → A → A
-bitAnd : ℕ → ℕ → ℕ
+bit_and : ℕ → ℕ → ℕ
 suc : ℕ → ℕ
 zero : ℕ
 true : Bool
@@ -30,7 +30,7 @@ tt : Unit
 up : ℤ → ℕ
 down : ℤ → ℕ
 binary64 : Format
-ofBits : Format → ℕ → Float
+of_bits : Format → ℕ → Float
 nan : Float
 inf : Bool → Float
 fin : Bool → ℕ → ℤ → Float
@@ -152,7 +152,7 @@ class File:
         library = table(LIBRARY)
         self.imported, self.names, self.all_records = {}, {}, dict(self.records)
         for module, names in re.findall(r"^use (\S+)\.\{(.*)\}$", text, re.M):
-            other = files.get(module.split(".")[-1]) if "model·specs" in module else None
+            other = files.get(module.split(".")[-1]) if module.startswith("Rattle.model.specs.") else None
             if other:
                 self.all_records.update(other.all_records)
             for entry in names.split(", "):

@@ -5,7 +5,7 @@ from kinds import known
 
 COMPARISONS = ["ltb", "leb", "eqb"]
 OTHER_WAY = {"true": "false", "false": "true", "&&": "||", "||": "&&", "+": "-", "-": "+", "/": "%", "%": "/"}
-EITHER_WAY = {"+", "*", "&&", "||", "eqb", "bitAnd", "same", "samePtr", "sumFits"}  # nothing else with the operands exchanged
+EITHER_WAY = {"+", "*", "&&", "||", "eqb", "bit_and", "same", "same_ptr", "sum_fits"}  # nothing else with the operands exchanged
 
 
 class Place:
@@ -22,7 +22,7 @@ class Place:
 
     def atom(self, node):
         """as an argument or operand"""
-        alone = node.kind in ("name", "number", "nil", "group", "tuple", "record")
+        alone = node.kind in ("name", "number", "nil", "proj", "group", "tuple", "record")
         return self.text(node) if alone else f"({self.text(node)})"
 
     def free(self, node):
@@ -118,7 +118,7 @@ def another(place, node):
     elif node.kind == "name":
         others = node.scope if node.name in node.scope else place.names if node.name in place.names else {}
         for other, type_ in others.items():
-            if other != node.name and known(type_) and type_ == others[node.name] and "_" not in other:
+            if other != node.name and known(type_) and type_ == others[node.name] and "◌" not in other:
                 yield node.start, node.end, other
 
 
@@ -136,7 +136,7 @@ def first_for_all(place, node):
         for argument in node.parts[1:]:
             is_list = isinstance(argument.type, tuple) and argument.type[0] == "List"
             at_most_one = argument.kind == "nil" or re.fullmatch(r"\([^∷]* ∷ \[\]\)", place.text(argument))
-            first_alone = node.parts[0].name == "getD" and node.parts[2].name == "0"
+            first_alone = node.parts[0].name == "get_or" and node.parts[2].name == "0"
             if is_list and not at_most_one and not first_alone:
                 yield argument.start, argument.end, f"(take 1 {place.atom(argument)})"
 
@@ -156,7 +156,7 @@ def left_out(place, node):
     elif node.kind == "record":
         for variable in [name for name, type_ in node.scope.items() if type_ == node.type]:
             for field in node.parts:
-                yield field.parts[0].start, field.end, f"{variable} .{field.name}"
+                yield field.parts[0].start, field.end, f"{variable}.{field.name}"
 
 
 def neighbour(place, node):
@@ -211,8 +211,8 @@ def mutants(file, definition):
 
 
 def without_effect(node):
-    """What `getD` gives behind a list's end, at a constant place: an image, a cell and a value are as long as that"""
-    if node.kind == "call" and node.parts[0].name == "getD" and node.parts[2].kind == "number":
+    """What `get_or` gives behind a list's end, at a constant place: an image, a cell and a value are as long as that"""
+    if node.kind == "call" and node.parts[0].name == "get_or" and node.parts[2].kind == "number":
         yield node.parts[3].start, node.parts[3].end
 
 

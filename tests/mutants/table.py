@@ -14,26 +14,25 @@ REFUSED, UNTYPED, ACCEPTED, UNENDED = "refused by a row", "does not type", "acce
 TABLE = "Cases"
 NOT_TOLD = "`all-rows`: the numeral `0` is checked against `Told (every rows)`"
 FACT = ("all-rows : every rows ≡ true\nunfolding ", "all-rows = refl")
-IMPORTS = {"take": "lib.ListN", "ltb": "lib.Dec", "leb": "lib.Dec", "eqb": "lib.Dec"}
-IMPORTS |= {f"_{op}_": "Prim.Native.Nat" for op in "+-*/%"} | {f"_{op}_": "mathlib.Core.Bool" for op in ("&&", "||")}
-IMPORTS |= {"true": "mathlib.Core.Bool", "false": "mathlib.Core.Bool", "[]": "mathlib.Core.List"}
+# what a change may name for the first time in its file
+IMPORTED = ["take", "ltb", "leb", "eqb", "true", "false", "[]", *(f"◌{op}◌" for op in ("+", "-", "*", "/", "%", "&&", "||"))]
 SECONDS = 120  # for a run of the prover, and a quarter of it for each wrong definition in it
 
 # The rows that most often tell a wrong definition of a file apart. They are put first: of a wrong definition only the rows up to the
 # first wrong one are computed
 FIRST = {
-    "Records": ["cases", "accessRows", "cellRows"],
-    "Barrier": ["limitRows", "accessRows"],
-    "Heap": ["roomRows", "sizeRows"],
-    "Image": ["cases", "roomRows", "formRows", "sizeRows"],
-    "Nursery": ["nurseryRows", "limitRows"],
-    "Elder": ["logRows", "elderRows", "roomRows"],
-    "Collector": ["accessRows", "reportRows", "logRows"],
-    "Calls": ["askedRows", "reportRows", "sizeRows"],
-    "Figure": ["figureRows"],
-    "Command": ["commandRows"],
-    "Run": ["commandRows"],
-    "Listing": ["commandRows"],
+    "Records": ["cases", "access_rows", "cell_rows"],
+    "Barrier": ["limit_rows", "access_rows"],
+    "Heap": ["room_rows", "size_rows"],
+    "Image": ["cases", "room_rows", "form_rows", "size_rows"],
+    "Nursery": ["nursery_rows", "limit_rows"],
+    "Elder": ["log_rows", "elder_rows", "room_rows"],
+    "Collector": ["access_rows", "report_rows", "log_rows"],
+    "Calls": ["asked_rows", "report_rows", "size_rows"],
+    "Figure": ["figure_rows"],
+    "Command": ["command_rows"],
+    "Run": ["command_rows"],
+    "Listing": ["command_rows"],
 }
 
 
@@ -41,8 +40,9 @@ class Model:
     def __init__(self, folder, names):
         self.folder = folder
         self.source = (folder / "src/lib.rt").read_text()
-        self.text = {name: (folder / f"specs/{name}.antt").read_text() for name in [*names, TABLE]}
-        uses = {name: set(re.findall(r"^use Rattle·model·specs\.specs\.(\w+)\.", text, re.M)) for name, text in self.text.items()}
+        self.text = {name: (folder / f"specs/{name}.antt").read_text() for name in names}
+        self.text[TABLE] = (folder / f"proofs/{TABLE}.antt").read_text()
+        uses = {name: set(re.findall(r"^use Rattle\.model\.specs\.(\w+)\.", text, re.M)) for name, text in self.text.items()}
         # the files that rest on a file, itself among them
         self.above = {name: {name} for name in self.text}
         for name in self.text:
@@ -54,12 +54,12 @@ class Model:
 def imports(text, new):
     """The text with `use` lines for what a change names for the first time"""
     lines = ""
-    for name, module in IMPORTS.items():
-        word = name.strip("_")
+    for name in IMPORTED:
+        word = name.strip("◌")
         used = re.search(rf"(?<!\S)\(?{re.escape(word)}(?!\S)" if not word.isalpha() else rf"\b{word}\b", new)
         if used and not re.search(rf"^use \S+\{{(?:.*, )?{re.escape(name)}(?:, .*)?\}}$", text, re.M):
-            lines += f"use {module}.{{{name}}}\n"
-    return re.sub(r"^use ", lines.replace("\\", r"\\") + "use ", text, count=1, flags=re.M)
+            lines += f"use Rattle.std.specs.Prelude.{{{name}}}\n"
+    return re.sub(r"^use ", lines + "use ", text, count=1, flags=re.M)
 
 
 def changed(text, mutant):
@@ -81,9 +81,9 @@ def in_order(lists, first):
 
 def build(model, mutants, value, folder):
     """The crate: the files of the model, and of each mutant those that its change reaches"""
-    specs = folder / "specs"
-    specs.mkdir(parents=True)
-    (folder / "src").mkdir()
+    specs, proofs = folder / "specs", folder / "proofs"
+    for part in (specs, proofs, folder / "src"):
+        part.mkdir(parents=True)
     (folder / "src/lib.rt").write_text(model.source)
     modules = [name for name in model.text if name != TABLE]
     for name in modules:
@@ -92,18 +92,19 @@ def build(model, mutants, value, folder):
         reached = [name for name in model.text if name in model.above[mutant.file] or name == TABLE]
         for name in reached:
             text = changed(model.text[name], mutant) if name == mutant.file else model.text[name]
-            text = re.sub(r"(?<=^use Rattle·model·specs\.specs\.)(\w+)(?=\.)", lambda m: f"M{k}{m[0]}" if m[0] in reached else m[0], text, flags=re.M)
+            text = re.sub(r"(?<=^use Rattle\.model\.specs\.)(\w+)(?=\.)", lambda m: f"M{k}{m[0]}" if m[0] in reached else m[0], text, flags=re.M)
             if name == TABLE:
                 text = told(text, value)
                 text = re.sub(r"(?<=^rows = ).*$", lambda m: in_order(m[0].split(" ++ "), FIRST.get(mutant.file, [])), text, flags=re.M)
-            (specs / f"M{k}{name}.antt").write_text(text)
-            modules.append(f"M{k}{name}")
+            (proofs if name == TABLE else specs).joinpath(f"M{k}{name}.antt").write_text(text)
+            modules += [f"M{k}{name}"] * (name != TABLE)
     (specs / "Lib.antt").write_text("".join(f"pub mod {name}\n" for name in modules))
+    (proofs / "Lib.antt").write_text("".join(f"pub mod M{k}{TABLE}\n" for k in range(len(mutants))))
 
 
 def checked(folder, seconds):
     """What the prover says of a crate, or nothing if it takes longer"""
-    run = subprocess.Popen(["rt", "check", str(folder)], stdout=subprocess.PIPE, stderr=subprocess.STDOUT, text=True, start_new_session=True)
+    run = subprocess.Popen(["rt", "check", folder.name], cwd=folder, stdout=subprocess.PIPE, stderr=subprocess.STDOUT, text=True, start_new_session=True)
     try:
         return run.communicate(timeout=seconds)[0]
     except subprocess.TimeoutExpired:
@@ -122,7 +123,7 @@ def proved(model, mutants, value):
     if not re.search(r"^logic=", said, re.M):
         return None
     facts = [True] * len(mutants)
-    for file, message in re.findall(r"/specs/(\w+)\.antt:\d+:\d+: error: (.*)", said):
+    for file, message in re.findall(r"^\./(?:specs|proofs)/(\w+)\.antt:\d+:\d+: error: (.*)", said, re.M):
         copy = re.fullmatch(r"M(\d+)([A-Z]\w+)", file)
         if not copy:
             raise SystemExit(f"{file}: {message}")

@@ -25,13 +25,8 @@ DIGITS = 3
 
 HEADER = f"""\
 -- Listings of the oracle as facts about the model.
-use mathlib.Core.Path.{{_≡_, refl}}
-use mathlib.Core.Bool.{{Bool, true, false, _&&_}}
-use mathlib.Core.List.{{List, [], _∷_}}
-use Prim.Native.Nat.{{ℕ, zero, suc, _+_, _*_, _/_, _%_}}
-use lib.Dec.{{eqb}}
-use lib.ListN.{{take, drop}}
-use Rattle·model.specs.Listing.{{listing}}
+use Rattle.std.specs.Prelude.{{◌≡◌, refl, Bool, true, false, ◌&&◌, List, [], ◌∷◌, ℕ, zero, suc, ◌+◌, ◌*◌, ◌/◌, ◌%◌, eqb, take, drop}}
+use Rattle.model.specs.Listing.{{listing}}
 
 -- so many bytes of a number, the lowest first
 bytes : ℕ → ℕ → List ℕ

@@ -1,5 +1,4 @@
 """Facts about the model that `rt check` proves by computing, in a repository of the model and one crate of facts."""
-import os
 import re
 import shutil
 import subprocess
@@ -7,7 +6,7 @@ import sys
 from pathlib import Path
 
 # definitions outside the model that it computes with and that have to be opened by name
-LIBRARY = ("lib.Ieee.ofBits",)
+LIBRARY = ("lib.Ieee.of_bits",)
 
 COMPARING = """\
 same : List ℕ → List ℕ → Bool
@@ -24,7 +23,7 @@ def definitions(model: Path) -> list[str]:
     for path in sorted(model.glob("specs/**/*.antt")):
         module = ".".join(path.relative_to(model).with_suffix("").parts)
         found = re.findall(r"^\s*unfoldable pub (\S+)", path.read_text(), re.M)
-        names += [f"Rattle·model.{module}.{name}" for name in found]
+        names += [f"Rattle.model.{module}.{name}" for name in found]
     return names
 
 
@@ -35,20 +34,19 @@ class Workbench:
         self.folder = folder
         self.header = header
         self.unfolding = f"unfolding {opened} " + " ".join(definitions(model))
-        shutil.copytree(model, folder / "crates" / "model", ignore=shutil.ignore_patterns("must-fail"))
+        shutil.copytree(model, folder / "crates" / "model", ignore=shutil.ignore_patterns("must-fail", "out"))
         (folder / "crates.txt").write_text("model:\nrows: model\n")
         rows = folder / "crates" / "rows"
         (rows / "src").mkdir(parents=True)
-        (rows / "specs").mkdir()
+        (rows / "proofs").mkdir()
         (rows / "src" / "lib.rt").write_text("pub fn one() -> u64 {\n    1\n}\n")
-        (rows / "specs" / "Lib.antt").write_text("pub mod Rows\n")
+        (rows / "proofs" / "Lib.antt").write_text("pub mod Rows\n")
 
     def check(self, facts: list[str]) -> str:
         """What the checker says of the facts row0, row1, …; nothing if all hold."""
         rows = (f"row{index} : {fact}\n{self.unfolding}\nrow{index} = refl\n" for index, fact in enumerate(facts))
-        (self.folder / "crates" / "rows" / "specs" / "Rows.antt").write_text("\n".join((self.header, *rows)))
-        environment = {**os.environ, "RT_CUT": "0"}
-        done = subprocess.run(["rt", "check", "rows"], cwd=self.folder, env=environment, capture_output=True, text=True)
+        (self.folder / "crates" / "rows" / "proofs" / "Rows.antt").write_text("\n".join((self.header, *rows)))
+        done = subprocess.run(["rt", "check"], cwd=self.folder / "crates" / "rows", capture_output=True, text=True)
         return done.stdout + done.stderr if done.returncode else ""
 
     def failing(self, facts: list[str]) -> list[int]:

@@ -121,16 +121,18 @@ def failures(heap: Path) -> Iterator[str]:
     yield "no room for the output"
 
 
-# as rt does, it leaves a program that would be the same
+# as rt does, it works in the crate's folder, and leaves a program that would be the same
 RT = """#!/bin/sh
+crate=${PWD##*/}
+cd ../..
 echo "$@" >>rt.log
 echo "rt: stand-in at work"
 [ ! -e broken ] || exit 1
 [ ! -e meanwhile ] || { sleep 0.1; touch crates/heap/src/main.rt; }
-printf '#!/bin/sh\\n[ $# = 0 ] || echo %s "$@"; cat; %s\\n' "$2" "$(cat says 2>/dev/null)" >made
+printf '#!/bin/sh\\n[ $# = 0 ] || echo %s "$@"; cat; %s\\n' "$crate" "$(cat says 2>/dev/null)" >made
 chmod +x made
-mkdir -p target/bin
-cmp -s made "target/bin/$2" || cp made "target/bin/$2"
+mkdir -p "crates/$crate/out"
+cmp -s made "crates/$crate/out/$crate" || cp made "crates/$crate/out/$crate"
 [ ! -e wrong ] || exit 1
 [ ! -e killed ] || kill -9 $PPID
 """
@@ -216,22 +218,24 @@ def building(folder: Path) -> Iterator[str]:
     yield made.wants("a build that is killed", 12, status=2, out=b"", said=at_work)
     (folder / "killed").unlink()
     yield made.wants("begins again", 13, said=at_work)
+    shutil.rmtree(folder / "crates" / "heap" / "out")
+    subprocess.run([made.rt, "run"], cwd=folder / "crates" / "heap", stdout=subprocess.DEVNULL, check=True)
+    yield made.wants("rt at work by itself makes nothing newer", 14)
     (folder / "target" / "bin" / "heap").unlink()
-    subprocess.run([made.rt, "check", "heap"], cwd=folder, stdout=subprocess.DEVNULL, check=True)
-    yield made.wants("a program that rt made by itself", 14)
+    yield made.wants("a program that rt made by itself is not taken", 15, said=at_work)
     os.utime(made.source)
     made.rt.rename(folder / "gone")
-    yield made.wants("no toolchain", 14, status=2, out=b"", said="not on the path")
+    yield made.wants("no toolchain", 15, status=2, out=b"", said="not on the path")
     (folder / "gone").rename(made.rt)
     (folder / "says").write_text("echo standard output: no room >&2")
     made.ran()
-    yield made.wants("the program says that it failed", 15, status=1, said="standard output: no room")
+    yield made.wants("the program says that it failed", 16, status=1, said="standard output: no room")
     os.utime(made.source)
     (folder / "says").write_text("kill -9 $$")
     made.ran()
-    yield made.wants("the program is ended", 16, status=1, said="ended by signal 9")
+    yield made.wants("the program is ended", 17, status=1, said="ended by signal 9")
     (folder / "target" / "bin" / "heap").write_bytes(b"\x7fELF of another machine")
-    yield made.wants("a program of another machine", 16, status=2, out=b"", said="cannot be run here")
+    yield made.wants("a program of another machine", 17, status=2, out=b"", said="cannot be run here")
 
 
 def subcommands(folder: Path) -> Iterator[str]:
