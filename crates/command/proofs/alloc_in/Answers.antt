@@ -1,0 +1,40 @@
+use native.Mathlib.Omega.{arith}
+use lib.ListN.{length}
+use mir.Syntax.{w64}
+use mir.ValLaws.{to_z-of_z}
+use Rattle.command.proofs.Allocating.{alloc-heapless, Lent, alloc-refused, roots-whole, alloc-acts}
+use borrow.Author.Rules.{rules}
+use Rattle.command.proofs.alloc_in.Goals as goal
+use Rattle.command.proofs.alloc_in.Goals.{After-words-roots}
+
+lent : (c : After-words-roots)
+    → Lent c.args.image.now c.args.registers c.words-roots.result (length c.args.scratch.now)
+lent c =
+    record { held = c.requires.held; there = omega (arith, c.if-image-eq0.false); good = c.requires.register_bound.1; words = c.words-roots.ensures.words; long = search rules; room = c.requires.program_scratch_in_bounds }
+
+pub returns-then-image-eq0 : goal.returns-then-image-eq0
+returns-then-image-eq0 c =
+    alloc-heapless c.args.register _ c.requires.held c.requires.register_bound.1 c.if-image-eq0.true c.refused.ensures
+
+pub alloc_formed-requires : goal.alloc_formed-requires
+alloc_formed-requires c = c.requires.held.formed (omega (arith, c.if-image-eq0.false))
+
+pub from_words-moved-requires : goal.from_words-moved-requires
+from_words-moved-requires c =
+    let asked = rw (to_z-of_z w64 c.args.amount c.ranges.amount) at c.alloc_formed.ensures in
+    roots-whole (lent (goal.at.from_words-moved-requires c).After-words-roots) _ _ _ _ asked c.in-At.is
+
+pub set-requires : goal.set-requires
+set-requires c = c.requires.register_bound.0
+
+pub returns-in-At : goal.returns-in-At
+returns-in-At c =
+    let asked = rw (to_z-of_z w64 c.args.amount c.ranges.amount) at c.alloc_formed.ensures in
+    let at = c.in-At.is in
+    -- the walk tells of the answer's fields that the offset is an i64
+    alloc-acts (lent (goal.at.returns-in-At c).After-words-roots) _ _ _ _ asked at c.from_words-moved.result c.set.result _ c.from_words-moved.ensures.cells c.from_words-moved.ensures.good (record { sfits = c.in-At.known_told-1-own.given.0.1.1.0.1.1.1.1.0.1 }) c.set.ensures
+
+pub returns-in-Refused : goal.returns-in-Refused
+returns-in-Refused c =
+    let asked = rw (to_z-of_z w64 c.args.amount c.ranges.amount) at c.alloc_formed.ensures in
+    alloc-refused (lent (goal.at.returns-in-Refused c).After-words-roots) _ _ _ _ asked _ c.in-Refused.is c.refused-in-Refused.ensures

@@ -1,0 +1,13 @@
+use mathlib.Core.Path.{sym, ◌∙◌}
+use Rattle.command.proofs.Stepping.{set-refused, set-done}
+use Rattle.command.proofs.set_register.Goals as goal
+
+pub returns-then-not-is_valid : goal.returns-then-not-is_valid
+returns-then-not-is_valid c w h = set-refused h c.requires.1 (sym c.is_valid.ensures ∙ c.if-not-is_valid.true) c.refused.ensures
+
+pub value_of-v-requires : goal.value_of-v-requires
+value_of-v-requires c = sym c.is_valid.ensures ∙ c.if-not-is_valid.false
+
+pub returns : goal.returns
+returns c w h =
+    set-done h c.requires.1 c.value_of-v.result (sym c.is_valid.ensures ∙ c.if-not-is_valid.false) c.value_of-v.ensures c.set.ensures

@@ -1,0 +1,7 @@
+use borrow.Author.Rules.{rules}
+use Rattle.heap_c.specs.Replies.{figure_words}
+use Rattle.heap_c.proofs.figure_words.Goals as goal
+
+pub returns : goal.returns
+unfolding figure_words
+returns c = search rules

@@ -1,0 +1,16 @@
+use mathlib.Core.Path.{sym, ap}
+use mir.Syntax.{w64}
+use mir.Val.{of_z}
+use Rattle.model.specs.Image.{decode}
+use Rattle.model.specs.Collector.{read}
+use Rattle.model.specs.Calls.{read_on}
+use Rattle.trace.specs.Words.{pointer}
+use Rattle.heap_c.specs.Replies.{words_of}
+use Rattle.heap_c.proofs.Replying.{as-given, answers-as}
+use Rattle.heap_c.proofs.heap_read_formed.Goals as goal
+
+pub returns : goal.returns
+unfolding read_on words_of
+returns c =
+    let given = as-given c.args.offset c.ranges.offset (λ x. read (decode c.args.image.now) (pointer c.args.heap c.args.base (of_z w64 x))) (sym c.read_formed.ensures.cell) in
+    answers-as (ap words_of (sym given)) c.answer_loaded.ensures
