@@ -7,7 +7,6 @@ use native.Mathlib.Omega.{arith}
 use lib.ListN.{length, take}
 use lib.Seq.{length-take-le}
 use lib.Dec.{leb}
-use types.Run.{OneOf, miss}
 use denote.Enum.Declared.{tag_of}
 use borrow.Author.Tests.{leb-true}
 use Rattle.model.specs.Lists.{all_at_most}
@@ -38,8 +37,8 @@ unfolding step
 new-refused z {w} {r} h g pos = refuses h g (rw (heap-there w r pos))
 
 -- a command that is no `new`
-pub not_new : (x : command.Command) → OneOf (1 ∷ 2 ∷ 3 ∷ 4 ∷ 5 ∷ 6 ∷ []) (tag_of the_type x) → is_new (model_command x) ≡ true → ⊥
-not_new (variants.New n t s c) h e = miss (1 ∷ 2 ∷ 3 ∷ 4 ∷ 5 ∷ 6 ∷ []) 0 tt h
+pub not_new : (x : command.Command) → ((n t s c : ℕ) → x ≡ variants.New n t s c → ⊥) → is_new (model_command x) ≡ true → ⊥
+not_new (variants.New n t s c) h e = h n t s c (λ i. variants.New n t s c)
 not_new (variants.Alloc r a) h e = false≢true e
 not_new (variants.Set r a b o) h e = false≢true e
 not_new (variants.Load r p d) h e = false≢true e

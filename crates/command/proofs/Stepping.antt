@@ -6,7 +6,6 @@ use mathlib.Core.Option.{some}
 use Prim.Native.Nat.{ℕ, ◌<◌}
 use lib.Ieee.{Float, binary64, of_bits}
 use lib.ListN.{length, get_or, set as put}
-use types.Run.{OneOf, miss}
 use denote.Enum.Declared.{tag_of}
 use Rattle.model.specs.Res.{Res, ok, refuse, ◌>>=◌}
 use Rattle.model.specs.Records.{Ptr, Cell, blank, cell_words, valid_words}
@@ -58,12 +57,12 @@ module _ {w : List ℕ} {r : Registers} {k a b o : ℕ} {t : Registers} (h : Hel
 
 -- figure
 
-no-float : (v : Value) → OneOf (0 ∷ 1 ∷ 2 ∷ 4 ∷ 5 ∷ []) (tag_of the_type v) → float_in (value_cell v) ≡ refuse 15
+no-float : (v : Value) → ((n : Float) (b : ℕ) → v ≡ FloatV n b → ⊥) → float_in (value_cell v) ≡ refuse 15
 unfolding float_in value_cell blank
 no-float Uninitialized k = refl
 no-float (Int x) k = refl
 no-float (BoolV b) k = refl
-no-float (FloatV n b) k = absurd (miss (0 ∷ 1 ∷ 2 ∷ 4 ∷ 5 ∷ []) 3 tt k)
+no-float (FloatV n b) k = absurd (k n b refl)
 no-float (Char c) k = refl
 no-float (PointerV p) k = refl
 
@@ -76,7 +75,7 @@ abbrev shown : ModelState → ModelFigure → Res (Line × ModelState)
 shown s f = ok (figure_line f, s)
 
 module _ {w : List ℕ} {r : Registers} (k : ℕ) (h : Held w) (g : Good r) (v : Value) (at : v ≡ (get_or r.cells k unset).value) where
-  pub figure-other : {a : Answer} {t : Registers} → OneOf (0 ∷ 1 ∷ 2 ∷ 4 ∷ 5 ∷ []) (tag_of the_type v) → (a ≡ answer.Refused 15) × (t ≡ r) → Acts (figure k) w r a w t
+  pub figure-other : {a : Answer} {t : Registers} → ((n : Float) (b : ℕ) → v ≡ FloatV n b → ⊥) → (a ≡ answer.Refused 15) × (t ≡ r) → Acts (figure k) w r a w t
   unfolding step register state_of
   figure-other o = refuses h g (rw (← got_cell r k at, no-float v o))
 

@@ -10,7 +10,6 @@ use lib.IntN.{ℤ, pos, negsuc, ◌-ℤ◌, ◌+ℤ◌, sub_ℕ}
 use lib.Signed.{mag, lt_z}
 use mir.Syntax.{w64}
 use mir.Val.{SFits, of_z}
-use types.Run.{OneOf, miss}
 use denote.Enum.Declared.{tag_of}
 use borrow.Author.Tests.{lt-ltb, le-ltb, le-leb, lt-leb, ltb-true, ltb-false}
 use Rattle.model.specs.Records.{blank, biased, sum_fits}
@@ -135,14 +134,14 @@ fits-down (negsuc m) (negsuc n) t f g h =
 
 -- the answers
 
-pub no_pointer : (v : Value) (d : ℕ) → OneOf (0 ∷ 1 ∷ 2 ∷ 3 ∷ 4 ∷ []) (tag_of the_type v) → target_answer (Refused 13) ≡ target_in (value_cell v) d
+pub no_pointer : (v : Value) (d : ℕ) → ((p : Pointer) → v ≡ PointerV p → ⊥) → target_answer (Refused 13) ≡ target_in (value_cell v) d
 unfolding target_in pointer_in value_cell blank
 no_pointer Uninitialized d k = refl
 no_pointer (Int x) d k = refl
 no_pointer (BoolV b) d k = refl
 no_pointer (FloatV n b) d k = refl
 no_pointer (Char c) d k = refl
-no_pointer (PointerV p) d k = absurd (miss (0 ∷ 1 ∷ 2 ∷ 3 ∷ 4 ∷ []) 5 tt k)
+no_pointer (PointerV p) d k = absurd (k p refl)
 
 module _ (v : Value) (p : Pointer) (d : ℤ) (e : v ≡ PointerV p) where
   pub beyond : sum_fits (of_z w64 p.offset) (of_z w64 d) ≡ false → target_answer (Refused 9) ≡ target_in (value_cell v) (of_z w64 d)

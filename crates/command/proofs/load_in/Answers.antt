@@ -9,35 +9,29 @@ use Rattle.value.specs.Value.{value_cell}
 use Rattle.command.specs.Steps.{target_answer, target_in}
 use Rattle.command.proofs.Stepping.{load-heapless, load-nowhere, load-refused, load-done}
 use Rattle.command.proofs.load_in.Goals as goal
-use Rattle.command.proofs.load_in.Goals.{After-target_of, Start}
+use Rattle.command.proofs.load_in.Goals.{After-target_of}
 
-abbrev start : After-target_of → Start
-start c = c.before.before.before.before
-
-there : (c : After-target_of) → 0 < length (start c).args.image.now
+there : (c : After-target_of) → 0 < length c.args.image.now
 there c = omega (arith, c.if-image-eq0.false)
 
-aim : (c : After-target_of) → target_answer c.target_of.result ≡ target_in (value_cell c.get.result) (of_z w64 (start c).args.offset)
-aim c = rw (to_z-of_z w64 (start c).args.offset (start c).ranges.offset) at c.target_of.ensures
+aim : (c : After-target_of) → target_answer c.target_of.result ≡ target_in (value_cell c.get.result) (of_z w64 c.args.offset)
+aim c = rw (to_z-of_z w64 c.args.offset c.ranges.offset) at c.target_of.ensures
 
 pub returns-then-image-eq0 : goal.returns-then-image-eq0
 returns-then-image-eq0 c =
     load-heapless _ _ _ c.requires.held c.requires.register_bound.2 (omega arith) c.refused.ensures
 
 pub read_formed-requires : goal.read_formed-requires
-read_formed-requires c = (start (goal.at.read_formed-requires c).After-target_of).requires.held.formed (there (goal.at.read_formed-requires c).After-target_of)
+read_formed-requires c = c.requires.held.formed (there (goal.at.read_formed-requires c).After-target_of)
 
 pub returns-in-Value : goal.returns-in-Value
 returns-in-Value c =
-    let s = start (goal.at.returns-in-Value c).After-target_of in
-    load-done _ _ _ s.requires.held s.requires.register_bound.2 (there (goal.at.returns-in-Value c).After-target_of) c.get.result c.get.ensures c.target_of.result (aim (goal.at.returns-in-Value c).After-target_of) c.in-Is.is c.read_formed.result c.read_formed.ensures c.in-Value.is c.loaded.ensures
+    load-done _ _ _ c.requires.held c.requires.register_bound.2 (there (goal.at.returns-in-Value c).After-target_of) c.get.result c.get.ensures c.target_of.result (aim (goal.at.returns-in-Value c).After-target_of) c.in-Is.is c.read_formed.result c.read_formed.ensures c.in-Value.is c.loaded.ensures
 
 pub returns-in-Refused-read_formed : goal.returns-in-Refused-read_formed
 returns-in-Refused-read_formed c =
-    let s = start (goal.at.returns-in-Refused-read_formed c).After-target_of in
-    load-refused _ _ _ s.requires.held s.requires.register_bound.2 (there (goal.at.returns-in-Refused-read_formed c).After-target_of) c.get.result c.get.ensures c.target_of.result (aim (goal.at.returns-in-Refused-read_formed c).After-target_of) c.in-Is.is c.read_formed.result c.read_formed.ensures c.in-Refused-read_formed.is c.refused-in-Refused-read_formed.ensures
+    load-refused _ _ _ c.requires.held c.requires.register_bound.2 (there (goal.at.returns-in-Refused-read_formed c).After-target_of) c.get.result c.get.ensures c.target_of.result (aim (goal.at.returns-in-Refused-read_formed c).After-target_of) c.in-Is.is c.read_formed.result c.read_formed.ensures c.in-Refused-read_formed.is c.refused-in-Refused-read_formed.ensures
 
 pub returns-in-Refused : goal.returns-in-Refused
 returns-in-Refused c =
-    let s = start (goal.at.returns-in-Refused c).After-target_of in
-    load-nowhere _ _ _ s.requires.held s.requires.register_bound.2 (there (goal.at.returns-in-Refused c).After-target_of) c.get.result c.get.ensures c.target_of.result (aim (goal.at.returns-in-Refused c).After-target_of) c.in-Refused.is c.refused-in-Refused.ensures
+    load-nowhere _ _ _ c.requires.held c.requires.register_bound.2 (there (goal.at.returns-in-Refused c).After-target_of) c.get.result c.get.ensures c.target_of.result (aim (goal.at.returns-in-Refused c).After-target_of) c.in-Refused.is c.refused-in-Refused.ensures

@@ -9,38 +9,32 @@ use Rattle.value.specs.Value.{value_cell}
 use Rattle.command.specs.Steps.{target_answer, target_in}
 use Rattle.command.proofs.Stepping.{store-heapless, store-nowhere, store-refused, store-done}
 use Rattle.command.proofs.store_in.Goals as goal
-use Rattle.command.proofs.store_in.Goals.{After-target_of, Start}
+use Rattle.command.proofs.store_in.Goals.{After-target_of}
 
-abbrev start : After-target_of → Start
-start c = c.before.before.before.before.before.before
-
-there : (c : After-target_of) → 0 < length (start c).args.image.now
+there : (c : After-target_of) → 0 < length c.args.image.now
 there c = omega (arith, c.if-image-eq0.false)
 
-aim : (c : After-target_of) → target_answer c.target_of.result ≡ target_in (value_cell c.get-2.result) (of_z w64 (start c).args.offset)
-aim c = rw (to_z-of_z w64 (start c).args.offset (start c).ranges.offset) at c.target_of.ensures
+aim : (c : After-target_of) → target_answer c.target_of.result ≡ target_in (value_cell c.get-2.result) (of_z w64 c.args.offset)
+aim c = rw (to_z-of_z w64 c.args.offset c.ranges.offset) at c.target_of.ensures
 
 pub returns-then-image-eq0 : goal.returns-then-image-eq0
 returns-then-image-eq0 c =
     store-heapless _ _ _ c.requires.held c.requires.register_bound.2 (omega arith) c.refused.ensures
 
 pub write_formed-requires : goal.write_formed-requires
-write_formed-requires c = (start (goal.at.write_formed-requires c).After-target_of).requires.held.formed (there (goal.at.write_formed-requires c).After-target_of)
+write_formed-requires c = c.requires.held.formed (there (goal.at.write_formed-requires c).After-target_of)
 
 pub returns-in-Done : goal.returns-in-Done
 returns-in-Done c =
-    let s = start (goal.at.returns-in-Done c).After-target_of in
     let u = c.get in
-    store-done _ _ _ s.requires.held s.requires.register_bound.2 (there (goal.at.returns-in-Done c).After-target_of) c.get-2.result c.get-2.ensures c.target_of.result (aim (goal.at.returns-in-Done c).After-target_of) u.result u.ensures c.in-Is.is c.encode-w.ensures c.write_formed.result _ c.write_formed.ensures c.in-Done.is
+    store-done _ _ _ c.requires.held c.requires.register_bound.2 (there (goal.at.returns-in-Done c).After-target_of) c.get-2.result c.get-2.ensures c.target_of.result (aim (goal.at.returns-in-Done c).After-target_of) u.result u.ensures c.in-Is.is c.encode-w.ensures c.write_formed.result _ c.write_formed.ensures c.in-Done.is
 
 pub returns-in-Refused-write_formed : goal.returns-in-Refused-write_formed
 returns-in-Refused-write_formed c =
-    let s = start (goal.at.returns-in-Refused-write_formed c).After-target_of in
     let u = c.get in
-    store-refused _ _ _ s.requires.held s.requires.register_bound.2 (there (goal.at.returns-in-Refused-write_formed c).After-target_of) c.get-2.result c.get-2.ensures c.target_of.result (aim (goal.at.returns-in-Refused-write_formed c).After-target_of) u.result u.ensures c.in-Is.is c.encode-w.ensures c.write_formed.result _ c.write_formed.ensures c.in-Refused-write_formed.is c.refused-in-Refused-write_formed.ensures
+    store-refused _ _ _ c.requires.held c.requires.register_bound.2 (there (goal.at.returns-in-Refused-write_formed c).After-target_of) c.get-2.result c.get-2.ensures c.target_of.result (aim (goal.at.returns-in-Refused-write_formed c).After-target_of) u.result u.ensures c.in-Is.is c.encode-w.ensures c.write_formed.result _ c.write_formed.ensures c.in-Refused-write_formed.is c.refused-in-Refused-write_formed.ensures
 
 pub returns-in-Refused : goal.returns-in-Refused
 returns-in-Refused c =
-    let s = start (goal.at.returns-in-Refused c).After-target_of in
     let u = c.get in
-    store-nowhere _ _ _ s.requires.held s.requires.register_bound.2 (there (goal.at.returns-in-Refused c).After-target_of) c.get-2.result c.get-2.ensures c.target_of.result (aim (goal.at.returns-in-Refused c).After-target_of) u.result u.ensures c.in-Refused.is c.refused-in-Refused.ensures
+    store-nowhere _ _ _ c.requires.held c.requires.register_bound.2 (there (goal.at.returns-in-Refused c).After-target_of) c.get-2.result c.get-2.ensures c.target_of.result (aim (goal.at.returns-in-Refused c).After-target_of) u.result u.ensures c.in-Refused.is c.refused-in-Refused.ensures

@@ -3,7 +3,7 @@ use Rattle.command.proofs.take_figure.Goals as goal
 
 pub returns-in_default : goal.returns-in_default
 returns-in_default c w h =
-    figure-other _ h c.requires.1 c.get-v.result c.get-v.ensures c.in_default.in_default-own.keys2 c.refused.ensures
+    figure-other _ h c.requires.1 c.get-v.result c.get-v.ensures c.in_default.not-Float c.refused.ensures
 
 pub returns-in-Is : goal.returns-in-Is
 returns-in-Is c w h =

@@ -1,98 +1,87 @@
-use borrow.Author.Rules.{rules}
-use native.Mathlib.Omega.{arith}
-use mathlib.Core.Path.{◌≡◌}
-use mathlib.Core.Bool.{true, false}
-use mathlib.Core.Logic.{⊎_elim}
-use Prim.Native.Nat.{◌-◌}
+use Rattle.std.proofs.Common.{rules, arith, ◌≡◌, ◌-◌, Bool, true, false}
 use lib.IntN.{ℤ, pos, negsuc, ◌+ℤ◌, ◌-ℤ◌}
 use lib.Signed.{mag, lt_z}
 use mir.Syntax.{w64}
 use mir.Val.{SFits, to_z, of_z}
 use mir.ValLaws.{to_z_pos, to_z-of_z}
-use Rattle.value.specs.declared.Pointer.{Pointer}
 use Rattle.command.proofs.Targets.{room-up, over-up, fits-up, room-down, over-down, fits-down, no_pointer, beyond, within}
 use Rattle.command.proofs.target_of.Goals as goal
-use Rattle.command.proofs.target_of.Goals.{After-struct_told-1, Else-o-offset, Else-offset-lt0, Else-offset-o, Joined-offset-lt0, Start, Then-o-offset, Then-offset-lt0, Then-offset-o}
+use Rattle.command.proofs.target_of.Goals.{In-Pointer, Joined-offset-lt0, then-offset-lt0+else-o-offset, else-offset-lt0+else-offset-o}
 
--- the pointer, and both offsets as the machine reads them back
-
-abbrev at : After-struct_told-1 → Pointer
-at c = c.before.before.v.given.0.0
-
-abbrev start : After-struct_told-1 → Start
-start c = c.before.before
-
-abbrev d : After-struct_told-1 → ℤ
-d c = (start c).args.offset
-
-d-fits : (c : After-struct_told-1) → SFits w64 (d c)
-d-fits c = (start c).ranges.offset
-
-x_fits : (c : After-struct_told-1) → SFits w64 (at c).offset
+x_fits : (c : In-Pointer) → SFits w64 c.in-Pointer.p.offset
 x_fits c = search rules
 
-d-is : (c : After-struct_told-1) → to_z w64 (of_z w64 (d c)) ≡ d c
-d-is c = to_z-of_z w64 (d c) (d-fits c)
+-- what the machine reads back of a number that fits is that number
+module _ (x d : ℤ) (f : SFits w64 x) (g : SFits w64 d) where
+  -- an offset below zero
+  read-down : {t : Bool} → lt_z (to_z w64 (of_z w64 d)) (pos 0) ≡ t → lt_z d (pos 0) ≡ t
+  read-down h = rw (to_z-of_z w64 d g) at h
 
-x-is : (c : After-struct_told-1) → to_z w64 (of_z w64 (at c).offset) ≡ (at c).offset
-x-is c = to_z-of_z w64 (at c).offset (x_fits c)
+  module _ (down : lt_z d (pos 0) ≡ true) where
+    least-is : to_z w64 (of_z w64 (negsuc 9223372036854775807 -ℤ d)) ≡ negsuc 9223372036854775807 -ℤ d
+    least-is = to_z-of_z w64 _ (room-down d down g)
 
--- an offset below zero
+    past_down : {t : Bool} → lt_z (to_z w64 (of_z w64 x)) (to_z w64 (of_z w64 (negsuc 9223372036854775807 -ℤ to_z w64 (of_z w64 d)))) ≡ t → lt_z x (negsuc 9223372036854775807 -ℤ d) ≡ t
+    past_down h = rw (to_z-of_z w64 d g, to_z-of_z w64 x f, least-is) at h
 
-down : (c : Then-offset-lt0) → lt_z (d c.before) (pos 0) ≡ true
-down c = rw (d-is c.before) at c.if-offset-lt0.true
+  -- zero or above
+  module _ (up : lt_z d (pos 0) ≡ false) where
+    most-is : to_z w64 (of_z w64 (pos 9223372036854775807 -ℤ d)) ≡ pos (9223372036854775807 - mag d)
+    most-is = rw (room-up d up g) (to_z_pos w64 (9223372036854775807 - mag d) (omega arith))
 
-least-is : (c : Then-offset-lt0) → to_z w64 (of_z w64 (negsuc 9223372036854775807 -ℤ d c.before)) ≡ negsuc 9223372036854775807 -ℤ d c.before
-least-is c = to_z-of_z w64 (negsuc 9223372036854775807 -ℤ d c.before) (room-down (d c.before) (down c) (d-fits c.before))
-
-past_down : (c : Then-o-offset) → lt_z (at c.before.before).offset (negsuc 9223372036854775807 -ℤ d c.before.before) ≡ true
-past_down c = rw (d-is c.before.before, x-is c.before.before, least-is c.before) at c.if-o-offset.true
-
-not-past-down : (c : Else-o-offset) → lt_z (at c.before.before).offset (negsuc 9223372036854775807 -ℤ d c.before.before) ≡ false
-not-past-down c = rw (d-is c.before.before, x-is c.before.before, least-is c.before) at c.if-o-offset.false
-
--- zero or above
-
-up : (c : Else-offset-lt0) → lt_z (d c.before) (pos 0) ≡ false
-up c = rw (d-is c.before) at c.if-offset-lt0.false
-
-most-is : (c : Else-offset-lt0) → to_z w64 (of_z w64 (pos 9223372036854775807 -ℤ d c.before)) ≡ pos (9223372036854775807 - mag (d c.before))
-most-is c = rw (room-up (d c.before) (up c) (d-fits c.before)) (to_z_pos w64 (9223372036854775807 - mag (d c.before)) (omega arith))
-
-past_up : (c : Then-offset-o) → lt_z (pos (9223372036854775807 - mag (d c.before.before))) (at c.before.before).offset ≡ true
-past_up c = rw (d-is c.before.before, x-is c.before.before, most-is c.before) at c.if-offset-o.true
-
-not-past-up : (c : Else-offset-o) → lt_z (pos (9223372036854775807 - mag (d c.before.before))) (at c.before.before).offset ≡ false
-not-past-up c = rw (d-is c.before.before, x-is c.before.before, most-is c.before) at c.if-offset-o.false
+    past_up : {t : Bool} → lt_z (to_z w64 (of_z w64 (pos 9223372036854775807 -ℤ to_z w64 (of_z w64 d)))) (to_z w64 (of_z w64 x)) ≡ t → lt_z (pos (9223372036854775807 - mag d)) x ≡ t
+    past_up h = rw (to_z-of_z w64 d g, to_z-of_z w64 x f, most-is) at h
 
 -- either way the sum fits
-sum_fits_lem : (c : Joined-offset-lt0) → SFits w64 ((at c.before).offset +ℤ d c.before)
-sum_fits_lem c =
-    ⊎_elim
-    (λ (t, e). fits-down (at c.before).offset (d c.before) (down record { before = c.before; if1 = t }) (x_fits c.before) (d-fits c.before) (not-past-down record { before = record { before = c.before; if1 = t }; if2 = e }))
-    (λ (t, e). fits-up (at c.before).offset (d c.before) (up record { before = c.before; if1 = t }) (x_fits c.before) (d-fits c.before) (not-past-up record { before = record { before = c.before; if1 = t }; if3 = e }))
-    c.if-offset-lt0.branch
+sum_fits_lem : (c : Joined-offset-lt0) → SFits w64 c.in-Pointer.p.offset → SFits w64 (c.in-Pointer.p.offset +ℤ c.args.offset)
+sum_fits_lem c f =
+    let x = c.in-Pointer.p.offset in
+    let d = c.args.offset in
+    let g = c.ranges.offset in
+    elim c.if-offset-lt0.branch [
+        then-offset-lt0+else-o-offset w ↦
+          let down = read-down x d f g w.if-offset-lt0.true in
+          fits-down x d down f g (past_down x d f g down w.if-o-offset.false)
+      | else-offset-lt0+else-offset-o w ↦
+          let up = read-down x d f g w.if-offset-lt0.false in
+          fits-up x d up f g (past_up x d f g up w.if-offset-o.false)
+    ]
 
 pub returns-in_default : goal.returns-in_default
-returns-in_default c = no_pointer c.args.v (of_z w64 c.args.offset) c.in_default.in_default-own.keys2
+returns-in_default c = no_pointer c.args.v (of_z w64 c.args.offset) c.in_default.not-Pointer
 
 pub overflow_sub-offset : goal.overflow_sub-offset
-overflow_sub-offset c = rw (d-is (goal.at.overflow_sub-offset c).After-struct_told-1) (room-down (d (goal.at.overflow_sub-offset c).After-struct_told-1) (down c) (d-fits (goal.at.overflow_sub-offset c).After-struct_told-1))
+overflow_sub-offset c =
+    let f = x_fits (goal.at.overflow_sub-offset c).In-Pointer in
+    rw (to_z-of_z w64 c.args.offset c.ranges.offset) (room-down _ (read-down _ _ f c.ranges.offset c.if-offset-lt0.true) c.ranges.offset)
 
 pub returns-then-o-offset : goal.returns-then-o-offset
 returns-then-o-offset c =
-    beyond (start (goal.at.returns-then-o-offset c).After-struct_told-1).args.v (at (goal.at.returns-then-o-offset c).After-struct_told-1) (d (goal.at.returns-then-o-offset c).After-struct_told-1) c.in-Pointer.is (over-down (at (goal.at.returns-then-o-offset c).After-struct_told-1).offset (d (goal.at.returns-then-o-offset c).After-struct_told-1) (down (goal.at.returns-then-o-offset c).Then-offset-lt0) (x_fits (goal.at.returns-then-o-offset c).After-struct_told-1) (d-fits (goal.at.returns-then-o-offset c).After-struct_told-1) (past_down c))
+    let f = x_fits (goal.at.returns-then-o-offset c).In-Pointer in
+    let g = c.ranges.offset in
+    let down = read-down _ _ f g c.if-offset-lt0.true in
+    beyond c.args.v c.in-Pointer.p c.args.offset c.in-Pointer.is (over-down _ _ down f g (past_down _ _ f g down c.if-o-offset.true))
 
 pub overflow_sub-offset-else-offset-lt0 : goal.overflow_sub-offset-else-offset-lt0
-overflow_sub-offset-else-offset-lt0 c = rw (d-is (goal.at.overflow_sub-offset-else-offset-lt0 c).After-struct_told-1, room-up (d (goal.at.overflow_sub-offset-else-offset-lt0 c).After-struct_told-1) (up c) (d-fits (goal.at.overflow_sub-offset-else-offset-lt0 c).After-struct_told-1)) (record { sfits = omega arith })
+overflow_sub-offset-else-offset-lt0 c =
+    let f = x_fits (goal.at.overflow_sub-offset-else-offset-lt0 c).In-Pointer in
+    rw (to_z-of_z w64 c.args.offset c.ranges.offset, room-up _ (read-down _ _ f c.ranges.offset c.if-offset-lt0.false) c.ranges.offset) (record { sfits = omega arith })
 
 pub returns-then-offset-o : goal.returns-then-offset-o
 returns-then-offset-o c =
-    beyond (start (goal.at.returns-then-offset-o c).After-struct_told-1).args.v (at (goal.at.returns-then-offset-o c).After-struct_told-1) (d (goal.at.returns-then-offset-o c).After-struct_told-1) c.in-Pointer.is (over-up (at (goal.at.returns-then-offset-o c).After-struct_told-1).offset (d (goal.at.returns-then-offset-o c).After-struct_told-1) (up (goal.at.returns-then-offset-o c).Else-offset-lt0) (x_fits (goal.at.returns-then-offset-o c).After-struct_told-1) (d-fits (goal.at.returns-then-offset-o c).After-struct_told-1) (past_up c))
+    let f = x_fits (goal.at.returns-then-offset-o c).In-Pointer in
+    let g = c.ranges.offset in
+    let up = read-down _ _ f g c.if-offset-lt0.false in
+    beyond c.args.v c.in-Pointer.p c.args.offset c.in-Pointer.is (over-up _ _ up f g (past_up _ _ f g up c.if-offset-o.true))
 
 pub overflow_add-result : goal.overflow_add-result
-overflow_add-result c = rw (x-is (goal.at.overflow_add-result c).After-struct_told-1, d-is (goal.at.overflow_add-result c).After-struct_told-1) (sum_fits_lem c)
+overflow_add-result c =
+    let f = x_fits (goal.at.overflow_add-result c).In-Pointer in
+    rw (to_z-of_z w64 c.in-Pointer.p.offset f, to_z-of_z w64 c.args.offset c.ranges.offset) (sum_fits_lem c f)
 
 pub returns : goal.returns
 returns c =
-    rw (x-is (goal.at.returns c).After-struct_told-1, d-is (goal.at.returns c).After-struct_told-1, to_z-of_z w64 ((at (goal.at.returns c).After-struct_told-1).offset +ℤ d (goal.at.returns c).After-struct_told-1) (sum_fits_lem c)) (within (start (goal.at.returns c).After-struct_told-1).args.v (at (goal.at.returns c).After-struct_told-1) (d (goal.at.returns c).After-struct_told-1) c.in-Pointer.is (x_fits (goal.at.returns c).After-struct_told-1) (d-fits (goal.at.returns c).After-struct_told-1) (sum_fits_lem c))
+    let f = x_fits (goal.at.returns c).In-Pointer in
+    let s = sum_fits_lem c f in
+    rw (to_z-of_z w64 c.in-Pointer.p.offset f, to_z-of_z w64 c.args.offset c.ranges.offset, to_z-of_z w64 (c.in-Pointer.p.offset +ℤ c.args.offset) s)
+    (within c.args.v c.in-Pointer.p c.args.offset c.in-Pointer.is f c.ranges.offset s)
