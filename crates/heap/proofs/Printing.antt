@@ -40,8 +40,8 @@ module _ {file image : List ℕ} {run : Run} {len : ℕ} (p : Printing file imag
           few = omega (arith, e, p.few, f.inside, f.further h, length-take-le used out f.inside);
         }
 
-  pub print-stopped : {written : Bool} → written ≡ false → Prints file len written
-  print-stopped {written} n = record { most = omega (arith, p.counted); all = λ e. let z : ◌≡◌ {A = ℕ} 0 1 = cc n in absurd (omega arith) }
+  pub print-stopped : {written : Bool} → not written ≡ true → Prints file len written
+  print-stopped {written} n = record { most = omega (arith, p.counted); all = λ e. let z : ◌≡◌ {A = ℕ} 0 1 = cc (not-true written n) in absurd (omega arith) }
 
   pub print-done : length file ≤ run.at → Prints file len true
   print-done h =

@@ -6,7 +6,8 @@ ghost use Rattle.std.specs.Prelude.{◌≡◌, ◌+◌, ◌^◌, ◌<◌, ◌≤
 ghost use Rattle.model.specs.Listing.{longest_file};
 ghost use Rattle.heap.specs.Bytes.{Comes, Stops, Prints};
 
-use libc::{STDIN_FILENO, STDOUT_FILENO};
+use std::io;
+use std::io::{Read, Write};
 
 // A byte more than the longest file has, which tells that a file is too long.
 const FILE: usize = 65537;
@@ -18,10 +19,15 @@ const SCRATCH: usize = 5754;
 
 const OUT: usize = 16384;
 
+// What failed, on standard error. Where that fails too, nobody is left to tell.
+fn say(rt: &HostRuntime, what: &str, error: &io::Error) {
+    let _ = eprintln!(rt; "{what}: {error}");
+}
+
 // ---- Standard input
 
 // How many bytes stand in front of the buffer, how many of them the last read brought, and whether it did not fail.
-#[derive(Drop)]
+#[derive(Clone, Copy)]
 struct Input {
     len: usize,
     came: usize,
@@ -29,27 +35,35 @@ struct Input {
 }
 
 // One read, behind the bytes of those before it.
-fn read_more(file: &mut [u8], len: usize) -> Input
+fn read_more(rt: &HostRuntime, file: &mut [u8], len: usize) -> Input
     requires { len ≤ length file.old }
     ensures { Comes file.old len result.came file.new result.len }
 {
-    let got = libc::read(STDIN_FILENO, &mut file[len..]);
-    let came = io::count(got, &file[len..]);
-    Input {
-        len: len + came,
-        came,
-        is_read: got >= 0,
+    match rt.stdin().read(&mut file[len..]) {
+        Ok(came) => Input {
+            len: len + came,
+            came,
+            is_read: true,
+        },
+        Err(e) => {
+            say(rt, "standard input", &e);
+            Input {
+                len,
+                came: 0,
+                is_read: false,
+            }
+        }
     }
 }
 
 // To the end of the input, or until `file` is full. A pipe hands over a part at a time.
-fn read_all(file: &mut [u8]) -> Input
+fn read_all(rt: &HostRuntime, file: &mut [u8]) -> Input
     requires { longest_file < length file.old }
     ensures { Stops file.new result.len result.came }
 {
-    let mut input = read_more(file, 0);
+    let mut input = read_more(rt, file, 0);
     while input.came > 0 && input.len < file.len() {
-        input = read_more(file, input.len);
+        input = read_more(rt, file, input.len);
     }
     input
 }
@@ -57,25 +71,32 @@ fn read_all(file: &mut [u8]) -> Input
 // ---- Standard output
 
 // How many bytes were handed on, and whether no write failed.
-#[derive(Drop)]
+#[derive(Clone, Copy)]
 struct Output {
     len: usize,
     written: bool,
 }
 
 // What is handed on is counted where it is handed on.
-fn write_more(bytes: &[u8], len: usize) -> Output
+fn write_more(rt: &HostRuntime, bytes: &[u8], len: usize) -> Output
     requires { len + length bytes.now < 2 ^ 64 }
     ensures { result.len ≡ len + length bytes.now }
 {
+    let written = match rt.stdout().write_all(bytes) {
+        Ok(()) => true,
+        Err(e) => {
+            say(rt, "standard output", &e);
+            false
+        }
+    };
     Output {
         len: len + bytes.len(),
-        written: io::write_all(STDOUT_FILENO, bytes),
+        written,
     }
 }
 
 // The file's listing, by the bufferful.
-fn print_all(file: &[u8]) -> Output
+fn print_all(rt: &HostRuntime, file: &[u8]) -> Output
     requires { length file.now ≤ longest_file + 1 }
     ensures { Prints file.now result.len result.written }
 {
@@ -87,7 +108,7 @@ fn print_all(file: &[u8]) -> Output
     while run.at < file.len() {
         let filled = listing::fill(file, &mut image, &mut scratch, run, &mut out);
         let used = filled.used;
-        let more = write_more(&out[..used], len);
+        let more = write_more(rt, &out[..used], len);
         if !more.written {
             return more;
         }
@@ -97,16 +118,12 @@ fn print_all(file: &[u8]) -> Output
     Output { len, written: true }
 }
 
-fn main() {
+fn main(rt: HostRuntime) {
     let mut file = [0u8; FILE];
-    let input = read_all(&mut file);
+    let input = read_all(&rt, &mut file);
     if !input.is_read {
-        os::fail(b"standard input");
         return;
     }
     let len = input.len;
-    let output = print_all(&file[..len]);
-    if !output.written {
-        os::fail(b"standard output");
-    }
+    print_all(&rt, &file[..len]);
 }

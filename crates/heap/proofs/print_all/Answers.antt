@@ -1,0 +1,40 @@
+use native.Mathlib.Omega.{arith}
+use Rattle.model.specs.Image.{image_length}
+use Rattle.model.specs.Calls.{scratch_length}
+use Rattle.theorems.specs.Program.{program_words, program_scratch}
+use Rattle.heap.proofs.Printing.{taken, print-none, print-fits, print-more, print-stopped, print-done}
+use borrow.Author.Rules.{rules}
+use Rattle.heap.proofs.print_all.Goals as goal
+
+pub loop-run-init : goal.loop-run-init
+loop-run-init c = (print-none (c.begin-run.ensures _ _), search rules, search rules, search rules)
+
+pub fill-filled-requires : goal.fill-filled-requires
+unfolding program_words program_scratch image_length scratch_length
+fill-filled-requires c = record {
+        going = c.loop-run.invariant.0.going;
+        program_words_in_bounds = (search rules, search rules);
+        longest_line_in_bounds = search rules;
+    }
+
+pub slice_bounds-write_more-end : goal.slice_bounds-write_more-end
+slice_bounds-write_more-end c = search (taken, rules)
+
+pub write_more-more-requires : goal.write_more-more-requires
+write_more-more-requires c =
+    print-fits c.loop-run.invariant.0 c.loop-run-test.true (search rules) c.fill-filled.ensures c.requires
+
+pub returns-then-not-more : goal.returns-then-not-more
+returns-then-not-more c =
+    print-stopped (print-more c.loop-run.invariant.0 c.loop-run-test.true (search rules) c.fill-filled.ensures c.write_more-more.ensures) c.if-not-more.true
+
+pub loop-run-smaller : goal.loop-run-smaller
+loop-run-smaller c =
+    omega (arith, c.fill-filled.ensures.further c.loop-run-test.true, c.fill-filled.ensures.going.within)
+
+pub loop-run-preserved : goal.loop-run-preserved
+loop-run-preserved c =
+    (print-more c.loop-run.invariant.0 c.loop-run-test.true (search rules) c.fill-filled.ensures c.write_more-more.ensures, search rules, search rules, search rules)
+
+pub returns : goal.returns
+returns c = print-done c.loop-run.invariant.0 (search rules)
