@@ -22,7 +22,6 @@ use Rattle.trace.specs.Words.{pointer}
 use Rattle.slots.specs.Slots.{answer, valid_old, ReadBy}
 use Rattle.slots.specs.declared.Old.{Old}
 use Rattle.slots.specs.declared.Old.TheVariants.{At, Nothing}
-use Rattle.image.specs.declared.Checked.TheVariants.{Refused}
 use Rattle.access.specs.Access.{pointer_of, loaded_cell, loaded_outcome, place_answer, ValueOf, Loads, LoadsFrom}
 use Rattle.access.specs.declared.Loaded.{Loaded}
 use Rattle.access.specs.declared.Loaded.TheVariants as loaded

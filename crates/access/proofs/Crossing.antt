@@ -1,17 +1,15 @@
 -- One value: whether it counts, and its count stored.
 use mathlib.Core.Path.{◌≡◌, refl, sym, ◌∙◌}
 use mathlib.Core.Bool.{Bool, true, false, not}
-use mathlib.Core.List.{List, [], ◌∷◌}
+use mathlib.Core.List.{List}
 use Prim.Native.Nat.{ℕ, zero, suc, ◌%◌}
 use lib.Dec.{eqb}
 use lib.ListN.{get_or}
-use denote.Enum.Declared.{tag_of}
 use borrow.Author.Tests.{eq-eqb, ne_eqb}
 use Rattle.model.specs.Records.{Cell, blank}
 use Rattle.model.specs.Barrier.{Barrier, absent}
 use Rattle.model.specs.Heap.{Heap}
 use Rattle.theorems.specs.Does.{with_young, with_old}
-use Rattle.value.specs.contracts.Value.{the_type}
 use Rattle.value.specs.declared.Pointer.{Pointer}
 use Rattle.value.specs.declared.Value.{Value}
 use Rattle.value.specs.declared.Value.TheVariants.{Uninitialized, Int, Bool as BoolV, Float as FloatV, Char, Pointer as PointerV}

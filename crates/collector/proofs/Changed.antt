@@ -33,7 +33,6 @@ use Rattle.cycle.proofs.Doing.{map_res, does-map}
 use Rattle.cycle.proofs.Frames.{moves-same}
 use Rattle.cycle.proofs.Lending.{image-long}
 use Rattle.cycle.proofs.Sizes.{Moved, moved-few}
-use Rattle.collector.specs.declared.Allocated.TheVariants as allocs
 use Rattle.collector.specs.Alloc.{work_step, moves_at, Worked}
 
 -- the moves in scratch, as they are lent: from the list up to the new bases, and from there on

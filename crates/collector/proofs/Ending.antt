@@ -2,7 +2,7 @@
 use mathlib.Core.Path.{◌≡◌, sym, ap, ◌∙◌}
 use mathlib.Core.Bool.{true, false}
 use mathlib.Core.List.{List, [], ◌∷◌}
-use Prim.Native.Nat.{ℕ, ◌+◌, ◌*◌, ◌-◌, ◌/◌, ◌≤◌, ◌<◌}
+use Prim.Native.Nat.{ℕ, ◌+◌, ◌*◌, ◌/◌, ◌≤◌, ◌<◌}
 use native.Mathlib.Omega.{arith}
 use lib.Dec.{leb}
 use lib.ListN.{length, take, drop}
@@ -21,8 +21,6 @@ use Rattle.theorems.specs.Apart.{swap_both, swap_roots}
 use Rattle.theorems.proofs.Does.{answered}
 use Rattle.theorems.proofs.Lists.{and_left, and_right}
 use Rattle.theorems.proofs.Res.{bind, holds_at}
-use Rattle.barrier.specs.declared.Counting.{Counting}
-use Rattle.barrier.specs.declared.Counting.TheVariants as counting
 use Rattle.trace.proofs.Entries.{length-tab}
 use Rattle.trace.proofs.Places.{in-length}
 use Rattle.pointers.specs.Steps.{moves_in, move_at, with_both, changes_step}

@@ -1,13 +1,12 @@
 -- Any command: its registers are below 16; a second `new` is refused; the first is made before any heap.
 use mathlib.Core.Path.{◌≡◌, sym, subst}
 use mathlib.Core.Bool.{true, false≢true}
-use mathlib.Core.List.{List, [], ◌∷◌}
+use mathlib.Core.List.{List, ◌∷◌}
 use Prim.Native.Nat.{ℕ, ◌≤◌, ◌<◌}
 use native.Mathlib.Omega.{arith}
 use lib.ListN.{length, take}
 use lib.Seq.{length-take-le}
 use lib.Dec.{leb}
-use denote.Enum.Declared.{tag_of}
 use borrow.Author.Tests.{leb-true}
 use Rattle.model.specs.Lists.{all_at_most}
 use Rattle.model.specs.Heap.{Sizes}
@@ -17,7 +16,6 @@ use Rattle.theorems.proofs.Lists.{and_parts}
 use Rattle.reader.specs.Answer.{model_command}
 use Rattle.reader.specs.declared.Command as command
 use Rattle.reader.specs.declared.Command.TheVariants as variants
-use Rattle.reader.specs.contracts.Command.{the_type}
 use Rattle.registers.specs.declared.Registers.{Registers}
 use Rattle.registers.specs.Cells.{Good}
 use Rattle.command.specs.declared.answers.Answer.{Answer}

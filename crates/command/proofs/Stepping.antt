@@ -6,7 +6,6 @@ use mathlib.Core.Option.{some}
 use Prim.Native.Nat.{ℕ, ◌<◌}
 use lib.Ieee.{Float, binary64, of_bits}
 use lib.ListN.{length, get_or, set as put}
-use denote.Enum.Declared.{tag_of}
 use Rattle.model.specs.Res.{Res, ok, refuse, ◌>>=◌}
 use Rattle.model.specs.Records.{Ptr, Cell, blank, cell_words, valid_words}
 use Rattle.model.specs.Heap.{Heap}
@@ -18,7 +17,6 @@ use Rattle.model.specs.Command.{set, load, store, figure}
 use Rattle.model.specs.Run.{State as ModelState, holding, register, Line, load_line, store_line, figure_line, the_heap, pointer_in, added, float_in, step}
 use Rattle.theorems.proofs.Res.{holds_at}
 use Rattle.theorems.proofs.Calls.{read-fit}
-use Rattle.value.specs.contracts.Value.{the_type}
 use Rattle.value.specs.declared.Pointer.{Pointer}
 use Rattle.value.specs.declared.Value.{Value}
 use Rattle.value.specs.declared.Value.TheVariants.{Uninitialized, Int, Bool as BoolV, Float as FloatV, Char, Pointer as PointerV}

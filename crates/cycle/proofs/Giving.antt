@@ -11,7 +11,6 @@ use Rattle.model.specs.Records.{Cell, whole}
 use Rattle.model.specs.Heap.{Heap, held}
 use Rattle.model.specs.Image.{decode}
 use Rattle.model.specs.Nursery.{bump}
-use Rattle.theorems.specs.Fit.{Image}
 use Rattle.theorems.specs.Does.{Does}
 use Rattle.theorems.proofs.Does.{does-same}
 use Rattle.trace.specs.Words.{tab}
@@ -24,7 +23,7 @@ use Rattle.cycle.specs.declared.turns.Request.{Request}
 use Rattle.cycle.specs.declared.turns.Request.TheVariants.{New, Move}
 use Rattle.cycle.specs.declared.turns.Gave.{Gave}
 use Rattle.cycle.specs.declared.turns.Outcome.{Outcome}
-use Rattle.cycle.specs.declared.turns.Outcome.TheVariants.{At, Refused}
+use Rattle.cycle.specs.declared.turns.Outcome.TheVariants.{At}
 use Rattle.cycle.specs.Scratch.{young_in}
 use Rattle.cycle.specs.Turns.{at, in_elder, give, bumped, too_large, must_collect, give_in}
 use Rattle.cycle.specs.Outcomes.{Asked, Gives, gave_at, gave_turn, outcome_answer, placed_outcome}

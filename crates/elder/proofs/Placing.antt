@@ -1,6 +1,6 @@
 -- An allocation placed, step by step: room asked for, the cells counted in, and put at the new base.
 use mathlib.Core.Path.{◌≡◌, refl, sym, ◌∙◌}
-use mathlib.Core.Bool.{Bool, true, false, not, true≢false}
+use mathlib.Core.Bool.{Bool, true, false}
 use mathlib.Core.List.{List}
 use Prim.Native.Nat.{ℕ, zero, suc, ◌*◌, ◌/◌}
 use native.Mathlib.Omega.{arith}

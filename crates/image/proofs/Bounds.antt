@@ -1,10 +1,10 @@
 -- Sizes within bounds, and what a test says.
 use mathlib.Core.Path.{◌≡◌, sym, ◌∙◌}
-use mathlib.Core.Bool.{Bool, true, false, not}
+use mathlib.Core.Bool.{Bool, true, false}
 use mathlib.Core.List.{List}
 use Prim.Native.Nat.{ℕ, ◌+◌, ◌*◌}
 use native.Mathlib.Omega.{arith}
-use borrow.Author.Tests.{leb-true, not-true, not-false}
+use borrow.Author.Tests.{leb-true}
 use Rattle.model.specs.Heap.{Sizes, in_bounds}
 use Rattle.model.specs.Image.{image_length, sizes_of, sized}
 use Rattle.model.specs.Calls.{scratch_length}

@@ -9,7 +9,7 @@ use lib.Dec.{eqb, ltb, leb}
 use lib.ListN.{length, get_or, set, length-set, replicate, length-replicate}
 use lib.Seq.{get_or-set_same, get_or-set_other}
 use Rattle.model.specs.Lists.{all_at_most}
-use Rattle.model.specs.Res.{ok, ◌>>=◌, each}
+use Rattle.model.specs.Res.{ok, each}
 use Rattle.model.specs.Records.{Ptr, Cell, plain, ref}
 use Rattle.model.specs.Barrier.{Barrier, absent, present, cache, most, counts, count, up, down, count_in, count_out}
 use Rattle.theorems.specs.Holds.{Holds, such}

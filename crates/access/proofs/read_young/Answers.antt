@@ -17,9 +17,9 @@ found c =
 
 pub young_value-requires : goal.young_value-requires
 young_value-requires c = record {
-        image = search rules;
-        i_bound = young-inside _ _ _ (found (goal.at.young_value-requires c).After-index) c.in-At.is;
-    }
+  image = search rules;
+  i_bound = young-inside _ _ _ (found (goal.at.young_value-requires c).After-index) c.in-At.is;
+}
 
 pub returns-in-At : goal.returns-in-At
 returns-in-At c = young-loaded _ _ _ (found (goal.at.returns-in-At c).After-index) _ _ c.in-At.is c.young_value.ensures

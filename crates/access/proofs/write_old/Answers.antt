@@ -23,10 +23,10 @@ unfolding loaded_cell
 store_old-requires c =
     let t = old-read c.args.image.now c.args.base (of_z w64 c.args.offset) (sym (was_read (goal.at.store_old-requires c).After-read_old) ∙ ap loaded_cell c.in-Value.is) in
     record {
-        image = c.requires.image;
-        offset_in_bounds = rw (word c) t.0;
-        value = rw (word c) t.1;
-        cell_value = c.requires.cell_value;
+      image = c.requires.image;
+      offset_in_bounds = rw (word c) t.0;
+      value = rw (word c) t.1;
+      cell_value = c.requires.cell_value;
     }
 
 pub returns-in-Value : goal.returns-in-Value

@@ -17,10 +17,10 @@ found c =
 
 pub store_young-requires : goal.store_young-requires
 store_young-requires c = record {
-        image = c.requires.image;
-        i_bound = young-inside _ _ _ (found (goal.at.store_young-requires c).After-index) c.in-At.is;
-        cell_value = c.requires.cell_value;
-    }
+  image = c.requires.image;
+  i_bound = young-inside _ _ _ (found (goal.at.store_young-requires c).After-index) c.in-At.is;
+  cell_value = c.requires.cell_value;
+}
 
 pub returns-in-At : goal.returns-in-At
 unfolding place_answer

@@ -9,7 +9,7 @@ returns-in_default c =
     let i = c.before.before.before in
     let o = c.signed-o in
     let s = c.count_out-c in
-        let no = change-refused _ _ _ _ _ _ i.ranges.offset (read_back i.args.offset o.result i.ranges.offset o.ensures) s.result s.ensures.counted c.in_default.field-0 c.in_default.is in
+    let no = change-refused _ _ _ _ _ _ i.ranges.offset (read_back i.args.offset o.result i.ranges.offset o.ensures) s.result s.ensures.counted c.in_default.field-0 c.in_default.is in
     hands-refused _ c.in_default.is (refused-back s.result s.ensures c.in_default.is) no
 
 pub returns-in_default-answer : goal.returns-in_default-answer

@@ -28,9 +28,9 @@ returns-then-not-roots_ok c = roots-refused _ _ _ c.args.amount (said-no c.roots
 
 pub scratch_for-requires : goal.scratch_for-requires
 scratch_for-requires c = record {
-        image = c.requires;
-        roots_value = good (goal.at.scratch_for-requires c).Else-not-roots_ok;
-    }
+  image = c.requires;
+  roots_value = good (goal.at.scratch_for-requires c).Else-not-roots_ok;
+}
 
 pub returns-then-scratch-scratch_for : goal.returns-then-scratch-scratch_for
 returns-then-scratch-scratch_for c =
@@ -45,9 +45,9 @@ overflow_cast-cells c = amount-cast c.args.amount c.ranges.amount c.if-amount-le
 
 pub stay_young-requires : goal.stay_young-requires
 stay_young-requires c = record {
-        image = c.requires;
-        amount_nonzero = ((amount (goal.at.stay_young-requires c).Else-amount-le0).above, ltb-true _ _ (c.fits.ensures.reads _ c.requires ∙ c.if-fits.true));
-    }
+  image = c.requires;
+  amount_nonzero = ((amount (goal.at.stay_young-requires c).Else-amount-le0).above, ltb-true _ _ (c.fits.ensures.reads _ c.requires ∙ c.if-fits.true));
+}
 
 pub returns-then-fits : goal.returns-then-fits
 returns-then-fits c =
@@ -55,11 +55,11 @@ returns-then-fits c =
 
 pub collect_for-requires : goal.collect_for-requires
 collect_for-requires c = record {
-        image = c.requires;
-        roots_value = good (goal.at.collect_for-requires c).Else-not-roots_ok;
-        roots_in_bounds = room (goal.at.collect_for-requires c).Else-scratch-scratch_for;
-        amount_nonzero = (amount (goal.at.collect_for-requires c).Else-amount-le0).above;
-    }
+  image = c.requires;
+  roots_value = good (goal.at.collect_for-requires c).Else-not-roots_ok;
+  roots_in_bounds = room (goal.at.collect_for-requires c).Else-scratch-scratch_for;
+  amount_nonzero = (amount (goal.at.collect_for-requires c).Else-amount-le0).above;
+}
 
 pub returns : goal.returns
 returns c =

@@ -5,9 +5,9 @@ use Rattle.collector.proofs.change_heap.Goals as goal
 
 pub bases_at-bases-requires : goal.bases_at-bases-requires
 bases_at-bases-requires c = let l = lists-there c.args.image.now c.args.roots.now c.args.scratch.now c.requires.roots_in_bounds in record {
-        image = c.requires.image;
-        roots_bound = search rules;
-    }
+  image = c.requires.image;
+  roots_bound = search rules;
+}
 
 pub slice_bounds-change_all-count : goal.slice_bounds-change_all-count
 slice_bounds-change_all-count c = (lists-inside c.args.image.now c.args.roots.now c.args.scratch.now _ c.requires.image c.requires.roots_in_bounds c.requires.moved_in_bounds refl c.bases_at-bases.ensures).0
@@ -29,9 +29,9 @@ slice_bounds-change_all-start-2 c = (lists-inside c.args.image.now c.args.roots.
 
 pub change_all-requires : goal.change_all-requires
 change_all-requires c = record {
-        image = c.requires.image;
-        count_in_bounds = lists-long c.args.image.now c.args.roots.now c.args.scratch.now _ c.requires.image c.requires.roots_in_bounds c.requires.moved_in_bounds refl c.bases_at-bases.ensures;
-    }
+  image = c.requires.image;
+  count_in_bounds = lists-long c.args.image.now c.args.roots.now c.args.scratch.now _ c.requires.image c.requires.roots_in_bounds c.requires.moved_in_bounds refl c.bases_at-bases.ensures;
+}
 
 pub returns : goal.returns
 returns c = rw (← lists-hold c.args.image.now c.args.roots.now c.args.scratch.now _ c.requires.image c.requires.roots_in_bounds c.requires.moved_in_bounds refl c.bases_at-bases.ensures) c.change_all.ensures

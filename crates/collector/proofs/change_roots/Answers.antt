@@ -6,9 +6,9 @@ use Rattle.collector.proofs.change_roots.Goals as goal
 
 pub bases_at-bases-requires : goal.bases_at-bases-requires
 bases_at-bases-requires c = let l = lists-there c.args.image.now c.args.roots.now c.args.scratch.now c.requires.roots_in_bounds in record {
-        image = c.requires.image;
-        roots_bound = search rules;
-    }
+  image = c.requires.image;
+  roots_bound = search rules;
+}
 
 pub slice_bounds-change_roots-count : goal.slice_bounds-change_roots-count
 slice_bounds-change_roots-count c = (lists-inside c.args.image.now c.args.roots.now c.args.scratch.now _ c.requires.image c.requires.roots_in_bounds c.requires.moved_in_bounds refl c.bases_at-bases.ensures).0
@@ -30,9 +30,9 @@ slice_bounds-change_roots-start-2 c = (lists-inside c.args.image.now c.args.root
 
 pub change_roots-requires : goal.change_roots-requires
 change_roots-requires c = record {
-        roots_value = roots-whole _ c.requires.roots_value;
-        count_in_bounds = lists-long c.args.image.now c.args.roots.now c.args.scratch.now _ c.requires.image c.requires.roots_in_bounds c.requires.moved_in_bounds refl c.bases_at-bases.ensures;
-    }
+  roots_value = roots-whole _ c.requires.roots_value;
+  count_in_bounds = lists-long c.args.image.now c.args.roots.now c.args.scratch.now _ c.requires.image c.requires.roots_in_bounds c.requires.moved_in_bounds refl c.bases_at-bases.ensures;
+}
 
 pub returns : goal.returns
 returns c = rw (← lists-hold c.args.image.now c.args.roots.now c.args.scratch.now _ c.requires.image c.requires.roots_in_bounds c.requires.moved_in_bounds refl c.bases_at-bases.ensures) c.change_roots.ensures

@@ -18,9 +18,9 @@ slice_bounds-collect_and_push_allocation-end c = let long = places-long (goal.at
 
 pub collect_and_push_allocation-o-requires : goal.collect_and_push_allocation-o-requires
 collect_and_push_allocation-o-requires c = record {
-        ready = c.requires;
-        collected_value = λ e. absurd (omega arith);
-    }
+  ready = c.requires;
+  collected_value = λ e. absurd (omega arith);
+}
 
 pub returns-in_default : goal.returns-in_default
 returns-in_default c = worked-refused c.requires c.young_barrier.ensures c.of-m.ensures.0 c.collect_and_push_allocation-o.ensures _ c.in_default.is

@@ -21,20 +21,20 @@ kept c = (search rules, search rules)
 
 pub save-used-requires : goal.save-used-requires
 save-used-requires c = record {
-        image = c.requires.image;
-        image_in_bounds = save-fits c.args.image.now c.args.roots.now c.args.scratch.now c.requires.image c.requires.roots_in_bounds;
-    }
+  image = c.requires.image;
+  image_in_bounds = save-fits c.args.image.now c.args.roots.now c.args.scratch.now c.requires.image c.requires.roots_in_bounds;
+}
 
 pub collect_and_change-o-requires : goal.collect_and_change-o-requires
 collect_and_change-o-requires c = ready-first _ c.args.image.now c.args.roots.now c.save-used.new.scratch c.requires.image c.requires.roots_value (room-saved (goal.at.collect_and_change-o-requires c).After-save-used) c.save-used.ensures c.requires.amount_nonzero
 
 pub change_roots-requires : goal.change_roots-requires
 change_roots-requires c = let n = roots-asked _ c.args.image.now c.args.roots.now c.save-used.new.scratch c.requires.image c.requires.roots_value (room-saved (goal.at.change_roots-requires c).After-save-used) c.save-used.ensures c.collect_and_change-o.ensures _ c.in-At.is (kept (goal.at.change_roots-requires c).After-collect_and_change-o).1 in record {
-        image = n.0;
-        roots_value = n.1;
-        roots_in_bounds = n.2;
-        moved_in_bounds = n.3;
-    }
+  image = n.0;
+  roots_value = n.1;
+  roots_in_bounds = n.2;
+  moved_in_bounds = n.3;
+}
 
 pub restore-requires : goal.restore-requires
 restore-requires c = let l = c.save-used.ensures.inside in let k = (kept (goal.at.restore-requires c).After-collect_and_change-o) in let n = save-fits c.args.image.now c.args.roots.now c.args.scratch.now c.requires.image c.requires.roots_in_bounds in let m = long-saved (goal.at.restore-requires c).After-save-used in (omega (arith, k.0), omega (arith, k.1))

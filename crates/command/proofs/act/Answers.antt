@@ -8,55 +8,55 @@ use Rattle.command.proofs.act.Goals as goal
 pub alloc_in-requires : goal.alloc_in-requires
 unfolding registers_of
 alloc_in-requires c = record {
-        held = c.requires.held.0;
-        program_scratch_in_bounds = c.requires.program_scratch_in_bounds;
-        register_bound = ((first_below c.in-Alloc.register [] (rw c.in-Alloc.is at c.requires.command_value)).0, c.requires.held.1);
-    }
+  held = c.requires.held.0;
+  program_scratch_in_bounds = c.requires.program_scratch_in_bounds;
+  register_bound = ((first_below c.in-Alloc.register [] (rw c.in-Alloc.is at c.requires.command_value)).0, c.requires.held.1);
+}
 
 pub set_register-requires : goal.set_register-requires
 unfolding registers_of
 set_register-requires c =
-        ((first_below c.in-Set.register [] (rw c.in-Set.is at c.requires.command_value)).0, c.requires.held.1)
+    ((first_below c.in-Set.register [] (rw c.in-Set.is at c.requires.command_value)).0, c.requires.held.1)
 
 pub load_in-requires : goal.load_in-requires
 unfolding registers_of
 load_in-requires c =
-        let (first, rest) = first_below c.in-Load.register (c.in-Load.pointer ∷ []) (rw c.in-Load.is at c.requires.command_value) in record {
-        held = c.requires.held.0;
-        register_bound = (first, (first_below c.in-Load.pointer [] rest).0, c.requires.held.1);
+    let (first, rest) = first_below c.in-Load.register (c.in-Load.pointer ∷ []) (rw c.in-Load.is at c.requires.command_value) in record {
+      held = c.requires.held.0;
+      register_bound = (first, (first_below c.in-Load.pointer [] rest).0, c.requires.held.1);
     }
 
 pub store_in-requires : goal.store_in-requires
 unfolding registers_of
 store_in-requires c =
-        let (first, rest) = first_below c.in-Store.register (c.in-Store.pointer ∷ []) (rw c.in-Store.is at c.requires.command_value) in record {
-        held = c.requires.held.0;
-        register_bound = (first, (first_below c.in-Store.pointer [] rest).0, c.requires.held.1);
+    let (first, rest) = first_below c.in-Store.register (c.in-Store.pointer ∷ []) (rw c.in-Store.is at c.requires.command_value) in record {
+      held = c.requires.held.0;
+      register_bound = (first, (first_below c.in-Store.pointer [] rest).0, c.requires.held.1);
     }
 
 pub take_figure-requires : goal.take_figure-requires
 unfolding registers_of
 take_figure-requires c =
-        ((first_below c.in-Figure.register [] (rw c.in-Figure.is at c.requires.command_value)).0, c.requires.held.1)
+    ((first_below c.in-Figure.register [] (rw c.in-Figure.is at c.requires.command_value)).0, c.requires.held.1)
 
 pub returns-in-New : goal.returns-in-New
 returns-in-New c =
-        rw c.in-New.is (new-refused _ c.requires.held.0 c.requires.held.1 (c.requires.image_nonzero (rw c.in-New.is)) c.refused.ensures)
+    rw c.in-New.is (new-refused _ c.requires.held.0 c.requires.held.1 (c.requires.image_nonzero (rw c.in-New.is)) c.refused.ensures)
 
 pub returns-in-Alloc : goal.returns-in-Alloc
 returns-in-Alloc c =
-        rw c.in-Alloc.is (rw (to_z-of_z w64 c.in-Alloc.amount (record { sfits = c.in-Alloc.known_told-1-own.given.1.0.1 })) at c.alloc_in.ensures)
+    rw c.in-Alloc.is (rw (to_z-of_z w64 c.in-Alloc.amount (record { sfits = c.in-Alloc.known_told-1-own.given.1.0.1 })) at c.alloc_in.ensures)
 
 pub returns-in-Set : goal.returns-in-Set
 returns-in-Set c = rw c.in-Set.is (c.set_register.ensures _ c.requires.held.0)
 
 pub returns-in-Load : goal.returns-in-Load
 returns-in-Load c =
-        rw c.in-Load.is (rw (to_z-of_z w64 c.in-Load.offset (record { sfits = c.in-Load.known_told-in-Load-1-own.given.1.1.0.1 })) at c.load_in.ensures)
+    rw c.in-Load.is (rw (to_z-of_z w64 c.in-Load.offset (record { sfits = c.in-Load.known_told-in-Load-1-own.given.1.1.0.1 })) at c.load_in.ensures)
 
 pub returns-in-Store : goal.returns-in-Store
 returns-in-Store c =
-        rw c.in-Store.is (rw (to_z-of_z w64 c.in-Store.offset (record { sfits = c.in-Store.known_told-in-Store-1-own.given.1.1.0.1 })) at c.store_in.ensures)
+    rw c.in-Store.is (rw (to_z-of_z w64 c.in-Store.offset (record { sfits = c.in-Store.known_told-in-Store-1-own.given.1.1.0.1 })) at c.store_in.ensures)
 
 pub returns-in-Report : goal.returns-in-Report
 returns-in-Report c = rw c.in-Report.is c.report_in.ensures

@@ -15,13 +15,13 @@ slice_bounds-act-end-2 c = sym (length-take-le _ _ c.requires.ready.within)
 
 pub act-acted-requires : goal.act-acted-requires
 act-acted-requires c = record {
-    held = (c.requires.ready.held, c.requires.ready.good);
-    program_scratch_in_bounds = c.requires.program_words_in_bounds.1;
-    command_value = c.requires.command_value;
-    image_nonzero = λ e. elim c.if-words-eq0.branch [
-        then-words-eq0+in_default w ↦ absurd (not_new c.args.command w.in_default.not-New e)
-      | else-words-eq0 w ↦ heap-lent c.args.state.words c.args.buffer.now c.requires.ready.within w.if-words-eq0.false
-    ];
+  held = (c.requires.ready.held, c.requires.ready.good);
+  program_scratch_in_bounds = c.requires.program_words_in_bounds.1;
+  command_value = c.requires.command_value;
+  image_nonzero = λ e. elim c.if-words-eq0.branch [
+    | then-words-eq0+in_default w ↦ absurd (not_new c.args.command w.in_default.not-New e)
+    | else-words-eq0 w ↦ heap-lent c.args.state.words c.args.buffer.now c.requires.ready.within w.if-words-eq0.false
+  ];
 }
 
 pub returns : goal.returns

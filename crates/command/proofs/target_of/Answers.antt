@@ -39,7 +39,7 @@ sum_fits_lem c f =
     let d = c.args.offset in
     let g = c.ranges.offset in
     elim c.if-offset-lt0.branch [
-        then-offset-lt0+else-o-offset w ↦
+      | then-offset-lt0+else-o-offset w ↦
           let down = read-down x d f g w.if-offset-lt0.true in
           fits-down x d down f g (past_down x d f g down w.if-o-offset.false)
       | else-offset-lt0+else-offset-o w ↦

@@ -1,7 +1,5 @@
 use borrow.Author.Rules.{rules}
-use mathlib.Core.Logic.{⊎_elim}
 use mathlib.Core.Path.{refl, sym, ◌∙◌}
-use Prim.Native.Nat.{◌-◌}
 use Rattle.barrier.specs.Counts.{step_of}
 use Rattle.barrier.proofs.Handing.{hands-done, hands-refused}
 use Rattle.drops.proofs.Drops.{laws, left-start, left-done, left-stays, left-turn, left-refused}
@@ -47,7 +45,7 @@ returns-in_default c =
     let s = c.count_cells-c in
     let i = c.before.before.before in
     let t = i.before.before.before.before in
-        let no = left-refused t.loop-b.invariant t.loop-b-test.true s.result (sym i.is_counted.ensures ∙ i.if-is_counted.true) s.ensures.counted c.in_default.field-0 c.in_default.is in
+    let no = left-refused t.loop-b.invariant t.loop-b-test.true s.result (sym i.is_counted.ensures ∙ i.if-is_counted.true) s.ensures.counted c.in_default.field-0 c.in_default.is in
     hands-refused _ c.in_default.is refl no
 
 pub loop-b-preserved : goal.loop-b-preserved
@@ -55,7 +53,7 @@ unfolding step_of
 loop-b-preserved c =
     let told = c.is_counted.ensures in
     elim c.if-is_counted.branch [
-        then-is_counted+in-Done w ↦ rw w.bar-is (left-turn c.loop-b.invariant c.loop-b-test.true w.count_cells-c.result (sym told ∙ w.if-is_counted.true) w.count_cells-c.ensures.counted w.in-Done.is)
+      | then-is_counted+in-Done w ↦ rw w.bar-is (left-turn c.loop-b.invariant c.loop-b-test.true w.count_cells-c.result (sym told ∙ w.if-is_counted.true) w.count_cells-c.ensures.counted w.in-Done.is)
       | else-is_counted w ↦ rw w.bar-is (left-stays c.loop-b.invariant c.loop-b-test.true (sym told ∙ w.if-is_counted.false))
     ]
 

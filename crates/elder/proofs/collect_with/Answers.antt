@@ -8,10 +8,10 @@ returns-then-old_collections-ge-MOST c = counter-full _ _ c.old_collections.ensu
 pub sweep-requires : goal.sweep-requires
 sweep-requires c =
     let others = sweep-asks _ _ c.old_collections.ensures c.if-old_collections-ge-MOST.false c.count_dropped-c.result c.count_dropped-c.ensures c.in-Done.is c.requires.image in record {
-        image = c.requires.image;
-        count_in_bounds = search rules;
-        fit_barrier = others.0;
-        image_bound = others.1;
+      image = c.requires.image;
+      count_in_bounds = search rules;
+      fit_barrier = others.0;
+      image_bound = others.1;
     }
 
 pub returns-in-Done : goal.returns-in-Done

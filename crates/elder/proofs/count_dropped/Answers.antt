@@ -8,9 +8,9 @@ layout_of-l-requires c = search (image-says-sized, rules)
 
 pub count_dropped-requires : goal.count_dropped-requires
 count_dropped-requires c = record {
-        packed = parts-formed c.requires.image c.layout_of-l.ensures;
-        count_in_bounds = search rules;
-    }
+  packed = parts-formed c.requires.image c.layout_of-l.ensures;
+  count_in_bounds = search rules;
+}
 
 pub returns : goal.returns
 returns c =

@@ -10,9 +10,9 @@ returns-then-not-any_crosses c =
 pub put_old_barrier-requires : goal.put_old_barrier-requires
 unfolding step_of
 put_old_barrier-requires c = record {
-        image = c.requires.image;
-        fit_barrier = count-fit (cells_in c.args.src.now) c.old_barrier.ensures c.count_cells-c.result c.count_cells-c.ensures.counted c.in-Done.is c.requires.image;
-    }
+  image = c.requires.image;
+  fit_barrier = count-fit (cells_in c.args.src.now) c.old_barrier.ensures c.count_cells-c.result c.count_cells-c.ensures.counted c.in-Done.is c.requires.image;
+}
 
 pub returns-in-Done : goal.returns-in-Done
 unfolding step_of

@@ -9,9 +9,9 @@ layout_of-l-requires c = search (image-says-sized, rules)
 pub trace_old-requires : goal.trace_old-requires
 trace_old-requires c =
     let others = trace-room c.layout_of-l.ensures c.requires.image c.args.roots.now c.requires.image_in_bounds in record {
-        mask_count_in_bounds = search rules;
-        lens_in_bounds = others.0;
-        lens_in_bounds_2 = others.1;
+      mask_count_in_bounds = search rules;
+      lens_in_bounds = others.0;
+      lens_in_bounds_2 = others.1;
     }
 
 pub returns : goal.returns

@@ -6,9 +6,9 @@ returns-in_default c = blank_none _ _ _ c.room_for.ensures c.in_default.is
 
 pub put_blank-requires : goal.put_blank-requires
 put_blank-requires c = record {
-        image = c.requires;
-        b_value = blank-room _ _ _ c.room_for.ensures c.in-At.is;
-    }
+  image = c.requires;
+  b_value = blank-room _ _ _ c.room_for.ensures c.in-At.is;
+}
 
 pub returns : goal.returns
 returns c = blank-done _ _ _ c.room_for.ensures c.in-At.is c.put_blank.ensures

@@ -5,9 +5,9 @@ use Rattle.elder.proofs.sweep.Goals as goal
 
 pub keep_members-requires : goal.keep_members-requires
 keep_members-requires c = record {
-        image = next-image c.put_old_barrier.ensures c.requires.image;
-        count_in_bounds = search rules;
-    }
+  image = next-image c.put_old_barrier.ensures c.requires.image;
+  count_in_bounds = search rules;
+}
 
 pub count_old_collection-requires : goal.count_old_collection-requires
 count_old_collection-requires c = let all = (swept-left _ _ c.put_old_barrier.ensures c.keep_members.ensures c.requires.image c.requires.image_bound) in record { image = all.0; image_bound = all.1 }

@@ -3,9 +3,9 @@ use Rattle.fields.proofs.clear_young_barrier.Goals as goal
 
 pub put_young_barrier-requires : goal.put_young_barrier-requires
 put_young_barrier-requires c = record {
-        image = c.requires;
-        fit_barrier = absent-fits c.clear-cleared.ensures;
-    }
+  image = c.requires;
+  fit_barrier = absent-fits c.clear-cleared.ensures;
+}
 
 pub returns-then-is_present : goal.returns-then-is_present
 returns-then-is_present c = absent-put c.clear-cleared.ensures c.put_young_barrier.ensures

@@ -20,8 +20,8 @@ restart-requires c =
     let pre = c.requires in
     let collections = c.young_collections-collections.ensures in
     let promotions = c.promotions.ensures in record {
-        image = next-image c.clear_young_barrier.ensures pre.image;
-        collections_le_most = (omega (arith, pre.image_bound.0, collections.reads _ pre.image), omega (arith, pre.image_bound.1, promotions.reads _ pre.image));
+      image = next-image c.clear_young_barrier.ensures pre.image;
+      collections_le_most = (omega (arith, pre.image_bound.0, collections.reads _ pre.image), omega (arith, pre.image_bound.1, promotions.reads _ pre.image));
     }
 
 pub returns : goal.returns

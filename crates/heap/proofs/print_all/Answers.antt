@@ -12,10 +12,10 @@ loop-run-init c = (print-none (c.begin-run.ensures _ _), search rules, search ru
 pub fill-filled-requires : goal.fill-filled-requires
 unfolding program_words program_scratch image_length scratch_length
 fill-filled-requires c = record {
-        going = c.loop-run.invariant.0.going;
-        program_words_in_bounds = (search rules, search rules);
-        longest_line_in_bounds = search rules;
-    }
+  going = c.loop-run.invariant.0.going;
+  program_words_in_bounds = (search rules, search rules);
+  longest_line_in_bounds = search rules;
+}
 
 pub slice_bounds-write_more-end : goal.slice_bounds-write_more-end
 slice_bounds-write_more-end c = search (taken, rules)

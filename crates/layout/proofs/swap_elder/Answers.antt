@@ -10,6 +10,6 @@ swap_old-requires c = search (tails, rules)
 
 pub returns : goal.returns
 returns c = record {
-        turned = search (tails, rules);
-        value = search (tails, rules);
-    }
+  turned = search (tails, rules);
+  value = search (tails, rules);
+}

@@ -5,10 +5,10 @@ use Rattle.listing.proofs.advance.Goals as goal
 
 pub perform-p-requires : goal.perform-p-requires
 perform-p-requires c = record {
-        ready = c.requires.going.ready;
-        program_words_in_bounds = (search rules, search rules);
-        command_value = (registers-below-16 _ _ c.requires.at_in_bounds (rw c.in-Is.is at c.stands_at.ensures));
-    }
+  ready = c.requires.going.ready;
+  program_words_in_bounds = (search rules, search rules);
+  command_value = (registers-below-16 _ _ c.requires.at_in_bounds (rw c.in-Is.is at c.stands_at.ensures));
+}
 
 pub returns-in-Is : goal.returns-in-Is
 returns-in-Is c =

@@ -8,11 +8,11 @@ loop-next-init c = search (fill_none, rules)
 
 pub advance-f-requires : goal.advance-f-requires
 advance-f-requires c = record {
-        going = c.loop-next.invariant.0.going;
-        at_in_bounds = search rules;
-        program_words_in_bounds = (search rules, search rules);
-        longest_line_in_bounds = search rules;
-    }
+  going = c.loop-next.invariant.0.going;
+  at_in_bounds = search rules;
+  program_words_in_bounds = (search rules, search rules);
+  longest_line_in_bounds = search rules;
+}
 
 pub loop-next-preserved : goal.loop-next-preserved
 loop-next-preserved c =

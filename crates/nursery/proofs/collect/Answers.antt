@@ -28,8 +28,8 @@ empty_nursery-requires c =
     let i = c.requires.image in
     let collections = c.young_collections.ensures in
     let promotions = c.promotions.ensures in record {
-        image = i;
-        image_bound = (omega (arith, most-is, collections.reads _ i), omega (arith, most-is, promotions.reads _ i));
+      image = i;
+      image_bound = (omega (arith, most-is, collections.reads _ i), omega (arith, most-is, promotions.reads _ i));
     }
 
 pub returns : goal.returns

@@ -9,10 +9,10 @@ layout_of-l-requires c = image-says-sized c.requires.image
 pub trace_young-requires : goal.trace_young-requires
 trace_young-requires c =
     let p = c.layout_of-l.ensures in record {
-        mask_count_in_bounds = search rules;
-        cells_len = cells-long p c.requires.image;
-        by_index = lens-inside p c.requires.image;
-        lens_in_bounds = list-room p c.requires.image _ _ c.requires.image_in_bounds;
+      mask_count_in_bounds = search rules;
+      cells_len = cells-long p c.requires.image;
+      by_index = lens-inside p c.requires.image;
+      lens_in_bounds = list-room p c.requires.image _ _ c.requires.image_in_bounds;
     }
 
 pub returns : goal.returns

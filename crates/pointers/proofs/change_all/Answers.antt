@@ -1,4 +1,3 @@
-use Prim.Native.Nat.{◌-◌}
 use Rattle.pointers.specs.Steps.{move_at}
 use Rattle.pointers.proofs.Changing.{changes-begin, changes-turn, changes-refused, changes-end}
 use Rattle.pointers.proofs.change_all.Goals as goal

@@ -1,4 +1,3 @@
-use Prim.Native.Nat.{◌-◌}
 use Rattle.pointers.specs.Steps.{move_at}
 use Rattle.pointers.proofs.Roots.{roots-begin, roots-turn, roots-end}
 use Rattle.pointers.proofs.change_roots.Goals as goal

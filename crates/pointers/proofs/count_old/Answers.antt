@@ -13,8 +13,8 @@ pub put_old_barrier-requires : goal.put_old_barrier-requires
 put_old_barrier-requires c =
     let fit = count-fit 1 _ (λ b h. on_old (with_old_bar b) h) (λ h. h.old.bar) _ c.count_changes-c.result c.old_barrier.ensures c.count_changes-c.ensures.counted
     c.requires c.requires.fit.old.bar c.in-Done.is in record {
-        image = c.requires;
-        fit_barrier = fit;
+      image = c.requires;
+      fit_barrier = fit;
     }
 
 pub returns-in-Done : goal.returns-in-Done

@@ -13,8 +13,8 @@ pub put_young_barrier-requires : goal.put_young_barrier-requires
 put_young_barrier-requires c =
     let fit = count-fit 0 _ (λ b h. on_young (with_bar b) h) (λ h. h.young.bar) _ c.count_changes-c.result c.young_barrier.ensures c.count_changes-c.ensures.counted
     c.requires c.requires.fit.young.bar c.in-Done.is in record {
-        image = c.requires;
-        fit_barrier = fit;
+      image = c.requires;
+      fit_barrier = fit;
     }
 
 pub returns-in-Done : goal.returns-in-Done

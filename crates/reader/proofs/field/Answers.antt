@@ -1,4 +1,3 @@
-use Prim.Native.Nat.{◌-◌}
 use native.Mathlib.Omega.{arith}
 use Rattle.reader.proofs.Fields.{join-begin, join-room, join-again, join-done}
 use Rattle.reader.proofs.field.Goals as goal

@@ -1,5 +1,3 @@
-use mathlib.Core.Logic.{⊎_elim}
-use Prim.Native.Nat.{◌-◌}
 use borrow.Author.Rules.{rules}
 use Rattle.slots.proofs.Counts.{count_yes, count_no, counts}
 use Rattle.slots.proofs.held.Goals as goal

@@ -1,4 +1,3 @@
-use Prim.Native.Nat.{◌-◌}
 use borrow.Author.Rules.{rules}
 use Rattle.slots.proofs.Packs.{packs}
 use Rattle.slots.proofs.pack.Goals as goal

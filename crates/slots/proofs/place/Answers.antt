@@ -11,9 +11,9 @@ hole_of-h-requires c = search (placed, counts, rules)
 
 pub splice-requires : goal.splice-requires
 splice-requires c = record {
-        bound = (search (placed, counts, rules), search (placed, counts, rules), search (placed, counts, rules));
-        w_value = search (placed, counts, rules);
-    }
+  bound = (search (placed, counts, rules), search (placed, counts, rules), search (placed, counts, rules));
+  w_value = search (placed, counts, rules);
+}
 
 pub returns : goal.returns
 returns c = search (placed, counts, rules)

@@ -1,5 +1,3 @@
-use mathlib.Core.Logic.{⊎_elim}
-use Prim.Native.Nat.{◌-◌}
 use borrow.Author.Rules.{rules}
 use Rattle.slots.proofs.Swaps.{swap-found, swap-missed, swap-done, swaps}
 use Rattle.slots.proofs.swap_cells.Goals as goal

@@ -23,6 +23,6 @@ swap_cells-requires c = search (swapped, counts, rules)
 
 pub returns : goal.returns
 returns c = record {
-        changed = search (swapped, counts, rules);
-        value = search (swapped, counts, rules);
-    }
+  changed = search (swapped, counts, rules);
+  value = search (swapped, counts, rules);
+}

@@ -1,6 +1,6 @@
 use mathlib.Core.Path.{refl}
 use mathlib.Core.List.{List}
-use Prim.Native.Nat.{ℕ, ◌-◌}
+use Prim.Native.Nat.{ℕ}
 use native.Mathlib.Omega.{arith}
 use native.Mathlib.Nat.{sub-zero}
 use lib.ListN.{length}
@@ -24,10 +24,10 @@ loop-b-init c = search begin
 
 pub enter_base-n-requires : goal.enter_base-n-requires
 enter_base-n-requires c = record {
-        b_in_bounds = search rules;
-        mask_count_in_bounds = search rules;
-        room = search enter-room;
-    }
+  b_in_bounds = search rules;
+  mask_count_in_bounds = search rules;
+  room = search enter-room;
+}
 
 pub loop-b-preserved : goal.loop-b-preserved
 loop-b-preserved c = search enter-turn

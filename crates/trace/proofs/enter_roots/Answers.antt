@@ -1,6 +1,6 @@
 use mathlib.Core.Path.{refl}
 use mathlib.Core.List.{List, []}
-use Prim.Native.Nat.{ℕ, ◌-◌, ◌/◌}
+use Prim.Native.Nat.{ℕ, ◌/◌}
 use native.Mathlib.Omega.{arith}
 use native.Mathlib.Nat.{sub-zero}
 use lib.ListN.{length}
@@ -23,9 +23,9 @@ loop-k-init c = search begin
 
 pub enter_root-n-requires : goal.enter_root-n-requires
 enter_root-n-requires c = record {
-        k_in_bounds = search rules;
-        room = search enter-room;
-    }
+  k_in_bounds = search rules;
+  room = search enter-room;
+}
 
 pub loop-k-preserved : goal.loop-k-preserved
 loop-k-preserved c = search enter-turn

@@ -20,10 +20,10 @@ loop-k-init c = search begin
 
 pub enter_own-n-requires : goal.enter_own-n-requires
 enter_own-n-requires c = record {
-        k_in_bounds = search rules;
-        own_bound = search rules;
-        room = search enter-room;
-    }
+  k_in_bounds = search rules;
+  own_bound = search rules;
+  room = search enter-room;
+}
 
 pub loop-k-preserved : goal.loop-k-preserved
 loop-k-preserved c = search enter-turn

@@ -39,9 +39,9 @@ enter_roots-count-requires c = search roots-room
 
 pub enter_matched-requires : goal.enter_matched-requires
 enter_matched-requires c = record {
-        mask_count_in_bounds = search rules;
-        room = search matched-room;
-    }
+  mask_count_in_bounds = search rules;
+  room = search matched-room;
+}
 
 pub returns : goal.returns
 returns c = search begun

@@ -52,16 +52,16 @@ returns-then-len-eq0 c = search leads-nowhere
 
 pub begins_at-from-requires : goal.begins_at-from-requires
 begins_at-from-requires c = record {
-        b_in_bounds = search rules;
-        b_bound = search begin-fits;
-    }
+  b_in_bounds = search rules;
+  b_bound = search begin-fits;
+}
 
 pub scan-requires : goal.scan-requires
 scan-requires c = record {
-        len_in_bounds = search scan-within;
-        own_bound = search rules;
-        room = search scan-room;
-    }
+  len_in_bounds = search scan-within;
+  own_bound = search rules;
+  room = search scan-room;
+}
 
 pub returns : goal.returns
 returns c = search scan-done

@@ -49,11 +49,11 @@ loop-p-init c = search walk-begin
 
 pub visit-n-requires : goal.visit-n-requires
 visit-n-requires c = record {
-        inside = search rules;
-        own_bound = search rules;
-        p_lt_count = search rules;
-        room = search walk-room;
-    }
+  inside = search rules;
+  own_bound = search rules;
+  p_lt_count = search rules;
+  room = search walk-room;
+}
 
 pub loop-p-preserved : goal.loop-p-preserved
 loop-p-preserved c = search walk_turn

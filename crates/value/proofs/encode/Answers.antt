@@ -16,7 +16,7 @@ returns-in-Uninitialized c = rw c.in-Uninitialized.is c.plain_words.ensures
 pub returns-in-Int : goal.returns-in-Int
 unfolding value_cell
 returns-in-Int c =
-        rw c.in-Int.is (c.plain_words-in-Int.ensures ∙ ap (λ (n : ℕ). cell_words (plain 1 n ∷ [])) (c.unsigned.ensures ∙ ap (of_z w64) (to_z-of_z w64 c.in-Int.x (search rules))))
+    rw c.in-Int.is (c.plain_words-in-Int.ensures ∙ ap (λ (n : ℕ). cell_words (plain 1 n ∷ [])) (c.unsigned.ensures ∙ ap (of_z w64) (to_z-of_z w64 c.in-Int.x (search rules))))
 
 pub returns-in-Bool : goal.returns-in-Bool
 unfolding value_cell
@@ -33,4 +33,4 @@ returns-in-Char c = rw c.in-Char.is c.plain_words-in-Char.ensures
 pub returns-in-Pointer : goal.returns-in-Pointer
 unfolding value_cell cell_words
 returns-in-Pointer c =
-        rw c.in-Pointer.is (ap (λ (n : ℕ). (c.in-Pointer.p.heap * 256 + 5) ∷ c.in-Pointer.p.base ∷ n ∷ []) (c.unsigned-w.ensures ∙ ap (of_z w64) (to_z-of_z w64 c.in-Pointer.p.offset (search rules))))
+    rw c.in-Pointer.is (ap (λ (n : ℕ). (c.in-Pointer.p.heap * 256 + 5) ∷ c.in-Pointer.p.base ∷ n ∷ []) (c.unsigned-w.ensures ∙ ap (of_z w64) (to_z-of_z w64 c.in-Pointer.p.offset (search rules))))

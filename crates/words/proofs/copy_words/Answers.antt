@@ -1,4 +1,3 @@
-use Prim.Native.Nat.{◌-◌}
 use borrow.Author.Rules.{rules}
 use Rattle.words.proofs.Laws.{laws}
 use Rattle.words.proofs.copy_words.Goals as goal

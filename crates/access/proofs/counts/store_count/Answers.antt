@@ -22,18 +22,18 @@ returns-in_default c =
 pub returns-then-p-own : goal.returns-then-p-own
 returns-then-p-own c =
     let a = c.args in
-        ⊎_elim
+    ⊎_elim
     (λ w. apart-stores a.own a.v a.b (own-apart a.own a.v c.in-Pointer.p c.in-Pointer.is w))
     (λ w. absent-stores a.own a.v a.b w.1)
     c.then-p-own.either
 
 pub put_count-requires : goal.put_count-requires
 put_count-requires c = record {
-        image = search rules;
-        k_bound = (omega arith, omega (arith, most-is, (narrow c).fits));
-    }
+  image = search rules;
+  k_bound = (omega arith, omega (arith, most-is, (narrow c).fits));
+}
 
 pub returns : goal.returns
 returns c =
-        let k = c.place-at in
+    let k = c.place-at in
     count-stores c.args.own c.args.v c.args.b c.in-Pointer.p c.in-Pointer.is c.if-p-own.false c.if-not-present.false k.ensures refl c.put_count.ensures

@@ -11,7 +11,7 @@ opened : (c : Joined-not-present) → Opened c.args.self c.if-not-present.self
 opened c =
     let b = c.args.self in
     elim c.if-not-present.branch [
-        then-not-present w ↦ opened-absent b c.if-not-present.self w.if-not-present.true w.self-is
+      | then-not-present w ↦ opened-absent b c.if-not-present.self w.if-not-present.true w.self-is
       | else-not-present w ↦ opened-present b c.if-not-present.self w.if-not-present.false w.self-is
     ]
 
@@ -23,12 +23,12 @@ returns-in_default c =
 pub returns-then-p-own : goal.returns-then-p-own
 returns-then-p-own c =
     let a = c.args in
-        hands-done _ refl (step-own (steps-in a.own) (barrier_of a.self) a.v c.in-Pointer.p c.in-Pointer.is c.if-p-own.true)
+    hands-done _ refl (step-own (steps-in a.own) (barrier_of a.self) a.v c.in-Pointer.p c.in-Pointer.is c.if-p-own.true)
 
 pub returns-then-n-ge4294967295 : goal.returns-then-n-ge4294967295
 returns-then-n-ge4294967295 c =
     let a = c.args in
-        let k = c.place-at in
+    let k = c.place-at in
     let j = c.before.before.before in
     hands-refused j.if-not-present.self refl
     (full_back a.self j.if-not-present.self (opened j) k.result (omega (arith, k.ensures)) c.if-n-ge4294967295.true)
@@ -38,7 +38,7 @@ returns-then-n-ge4294967295 c =
 pub returns : goal.returns
 returns c =
     let a = c.args in
-        let k = c.place-at in
+    let k = c.place-at in
     let j = c.before.before.before in
     hands-done _ refl
     (up_more a.self j.if-not-present.self (opened j) k.result c.if-n-ge4294967295.false

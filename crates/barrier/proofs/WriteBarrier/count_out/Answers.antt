@@ -13,7 +13,7 @@ returns-in_default c =
 pub returns-then-p-own : goal.returns-then-p-own
 returns-then-p-own c =
     let a = c.args in
-        hands-done _ refl
+    hands-done _ refl
     (⊎_elim
     (λ w. step-own (steps-out a.own) (barrier_of a.self) a.v c.in-Pointer.p c.in-Pointer.is w)
     (λ w. down-absent a.self _ w.1 ∙ step_other (steps-out a.own) (barrier_of a.self) a.v c.in-Pointer.p c.in-Pointer.is w.0 _ refl)
@@ -22,7 +22,7 @@ returns-then-p-own c =
 pub returns-then-n-eq0 : goal.returns-then-n-eq0
 returns-then-n-eq0 c =
     let a = c.args in
-        let k = c.place-at in
+    let k = c.place-at in
     hands-refused _ refl refl
     (down-none a.self k.result c.if-not-present.false c.if-n-eq0.true
     ∙ step_other (steps-out a.own) (barrier_of a.self) a.v c.in-Pointer.p c.in-Pointer.is c.if-p-own.false k.result k.ensures)
@@ -30,7 +30,7 @@ returns-then-n-eq0 c =
 pub returns : goal.returns
 returns c =
     let a = c.args in
-        let k = c.place-at in
+    let k = c.place-at in
     hands-done _ refl
     (down-less a.self k.result c.if-not-present.false c.if-n-eq0.false
     ∙ step_other (steps-out a.own) (barrier_of a.self) a.v c.in-Pointer.p c.in-Pointer.is c.if-p-own.false k.result k.ensures)

@@ -31,7 +31,7 @@ overflow_add-i c =
 pub loop-i-preserved : goal.loop-i-preserved
 loop-i-preserved c =
     elim c.if-crosses.branch [
-        then-crosses+in-Done w ↦ rw w.b-is (turn-done _ _ _ c.loop-i.invariant c.loop-i-test.true w.value_at-v.result w.count-c.result w.value_at-v.ensures w.count-c.ensures.counted w.in-Done.is)
+      | then-crosses+in-Done w ↦ rw w.b-is (turn-done _ _ _ c.loop-i.invariant c.loop-i-test.true w.value_at-v.result w.count-c.result w.value_at-v.ensures w.count-c.ensures.counted w.in-Done.is)
       | else-crosses w ↦ rw w.b-is (turn-skip _ _ _ c.loop-i.invariant c.loop-i-test.true (steps_of _ _) (sym c.crosses.ensures ∙ w.if-crosses.false))
     ]
 

@@ -29,9 +29,9 @@ slice_bounds-collect-start c =
 
 pub collect-requires : goal.collect-requires
 collect-requires c = record {
-        image = c.requires.image;
-        image_in_bounds = young-list-long c.requires.image c.args.roots.now c.args.scratch.now c.requires.roots_in_bounds;
-    }
+  image = c.requires.image;
+  image_in_bounds = young-list-long c.requires.image c.args.roots.now c.args.scratch.now c.requires.roots_in_bounds;
+}
 
 pub returns : goal.returns
 returns c =

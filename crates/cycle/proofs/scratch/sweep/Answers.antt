@@ -24,9 +24,9 @@ slice_bounds-collect-start c =
 
 pub collect-requires : goal.collect-requires
 collect-requires c = record {
-        image = c.requires.image;
-        image_in_bounds = old-list-long c.requires.image c.args.roots.now c.args.scratch.now c.requires.roots_in_bounds c.old_list_at-at.ensures;
-    }
+  image = c.requires.image;
+  image_in_bounds = old-list-long c.requires.image c.args.roots.now c.args.scratch.now c.requires.roots_in_bounds c.old_list_at-at.ensures;
+}
 
 pub returns : goal.returns
 returns c =

@@ -6,6 +6,6 @@ overflow_add-scratch c = let e = c.bases_at-at.ensures in search rules
 
 pub returns : goal.returns
 returns c = record {
-        scratch_after = rw c.bases_at-at.ensures;
-        sweeps_value = search rules;
-    }
+  scratch_after = rw c.bases_at-at.ensures;
+  sweeps_value = search rules;
+}

@@ -1,4 +1,3 @@
-use Prim.Native.Nat.{◌-◌}
 use borrow.Author.Rules.{rules}
 use Rattle.image.proofs.Scans.{whole-turn, laws}
 use Rattle.image.proofs.cells.whole.Goals as goal

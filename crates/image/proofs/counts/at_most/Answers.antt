@@ -1,4 +1,3 @@
-use Prim.Native.Nat.{◌-◌}
 use borrow.Author.Rules.{rules}
 use Rattle.image.proofs.Scans.{laws}
 use Rattle.image.proofs.counts.at_most.Goals as goal

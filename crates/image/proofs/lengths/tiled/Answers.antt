@@ -1,4 +1,3 @@
-use Prim.Native.Nat.{◌-◌}
 use borrow.Author.Rules.{rules}
 use Rattle.image.proofs.Fills.{laws}
 use Rattle.image.proofs.lengths.tiled.Goals as goal

@@ -1,4 +1,3 @@
-use Prim.Native.Nat.{◌-◌}
 use borrow.Author.Rules.{rules}
 use Rattle.image.proofs.Zeros.{laws}
 use Rattle.image.proofs.store.zero.Goals as goal

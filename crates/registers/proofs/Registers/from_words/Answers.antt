@@ -1,6 +1,5 @@
 use borrow.Author.Rules.{rules}
 use mathlib.Core.Path.{◌≡◌}
-use Prim.Native.Nat.{◌-◌}
 use lib.ListN.{length}
 use Rattle.registers.proofs.Roots.{loaded-none, loaded-all, valid-here, loaded-more}
 use Rattle.registers.proofs.Registers.from_words.Goals as goal
@@ -24,6 +23,6 @@ loop-i-preserved c =
 
 pub returns : goal.returns
 returns c = record {
-        cells = loaded-all _ (long (goal.at.returns c).Start) c.loop-i.invariant c.loop-i-test.false;
-        good = c.loop-i.invariant.good;
-    }
+  cells = loaded-all _ (long (goal.at.returns c).Start) c.loop-i.invariant c.loop-i-test.false;
+  good = c.loop-i.invariant.good;
+}

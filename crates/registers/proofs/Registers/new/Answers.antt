@@ -3,6 +3,6 @@ use Rattle.registers.proofs.Registers.new.Goals as goal
 
 pub returns : goal.returns
 returns c = record {
-        cells = first-cells 16;
-        good = first_good;
-    }
+  cells = first-cells 16;
+  good = first_good;
+}

@@ -1,10 +1,9 @@
 use lib.ListN.{length-map}
 use borrow.Author.Rules.{rules}
 use mathlib.Core.Path.{◌≡◌}
-use Prim.Native.Nat.{◌-◌}
 use lib.ListN.{length}
 use Rattle.registers.specs.Cells.{cells_of_registers}
-use Rattle.registers.proofs.Values.{same_length, got_cell, good-whole}
+use Rattle.registers.proofs.Values.{got_cell, good-whole}
 use Rattle.registers.proofs.Roots.{written_none, written-more, written_all}
 use Rattle.registers.proofs.Registers.words.Goals as goal
 use Rattle.registers.proofs.Registers.words.Goals.{Start}
@@ -24,6 +23,6 @@ loop-i-preserved c =
 pub returns : goal.returns
 returns c =
     let all = written_all (long (goal.at.returns c).Start) c.loop-i.invariant c.loop-i-test.false in record {
-        words = all;
-        whole = λ g. rw all (good-whole c.args.self g);
+      words = all;
+      whole = λ g. rw all (good-whole c.args.self g);
     }

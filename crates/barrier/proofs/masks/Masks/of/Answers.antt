@@ -24,7 +24,7 @@ loop-i-preserved c =
     let n = counts-long c.before.before.before.before.before in
     let h = c.loop-i-test.true in
     elim c.if-barrier-i-gt0.branch [
-        then-barrier-i-gt0 w ↦ rw (w.places-is, w.count-is) (found-more l n h w.if-barrier-i-gt0.true)
+      | then-barrier-i-gt0 w ↦ rw (w.places-is, w.count-is) (found-more l n h w.if-barrier-i-gt0.true)
       | else-barrier-i-gt0 w ↦ rw (w.places-is, w.count-is) (found-same l n h w.if-barrier-i-gt0.false)
     ]
 
