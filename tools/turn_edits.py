@@ -60,6 +60,10 @@ BY_HAND = {
         "use lib.ListN.{getD, set, replicate}": "get_or, set, replicate}",
         "use lib.ListN.{getD, set, take, replicate}": "get_or, set, take, replicate}",
     },
+    "heap/read_over_the_first": {
+        "    let got = libc::read(STDIN_FILENO, &mut file[len..]);": "    match rt.stdin().read(&mut file[len..]) {",
+        "    let got = libc::read(STDIN_FILENO, &mut file[0..]);": "    match rt.stdin().read(&mut file[0..]) {",
+    },
     # the clause stands twice in the file now: the wrong one stands before it, and it is a comment
     "reader/read_at_says_start": {
         "    ensures { λ found. ⌜ nextAnswer found ≡ nextAt (now (file .entry)) at ⌝ }": """\
