@@ -119,6 +119,10 @@ def failures(heap: Path) -> Iterator[str]:
     full = ran(heap, given=FILE, before="exec >/dev/full;")
     wants("no room for the output", full, 1, said="standard output: ")
     yield "no room for the output"
+    # more than a pipe holds
+    gone = ran(heap, given=b"R" * 65536, before="exec > >(head -n 1 >/dev/null);")
+    wants("the reader has gone", gone, 1)
+    yield "the reader has gone"
 
 
 # as rt does, it works in the crate's folder, and leaves a program that would be the same
@@ -218,24 +222,25 @@ def building(folder: Path) -> Iterator[str]:
     yield made.wants("a build that is killed", 12, status=2, out=b"", said=at_work)
     (folder / "killed").unlink()
     yield made.wants("begins again", 13, said=at_work)
+    (folder / "crates" / "heap" / "out" / "kept").write_text("")
+    yield made.wants("what rt keeps is newer", 13)
+    (folder / "target" / "bin" / "heap").unlink()
     shutil.rmtree(folder / "crates" / "heap" / "out")
     subprocess.run([made.rt, "run"], cwd=folder / "crates" / "heap", stdout=subprocess.DEVNULL, check=True)
-    yield made.wants("rt at work by itself makes nothing newer", 14)
-    (folder / "target" / "bin" / "heap").unlink()
-    yield made.wants("a program that rt made by itself is not taken", 15, said=at_work)
+    yield made.wants("a program that rt made by itself", 14)
     os.utime(made.source)
     made.rt.rename(folder / "gone")
-    yield made.wants("no toolchain", 15, status=2, out=b"", said="not on the path")
+    yield made.wants("no toolchain", 14, status=2, out=b"", said="not on the path")
     (folder / "gone").rename(made.rt)
     (folder / "says").write_text("echo standard output: no room >&2")
     made.ran()
-    yield made.wants("the program says that it failed", 16, status=1, said="standard output: no room")
+    yield made.wants("the program says that it failed", 15, status=1, said="standard output: no room")
     os.utime(made.source)
     (folder / "says").write_text("kill -9 $$")
     made.ran()
-    yield made.wants("the program is ended", 17, status=1, said="ended by signal 9")
+    yield made.wants("the program is ended", 16, status=1, said="ended by signal 9")
     (folder / "target" / "bin" / "heap").write_bytes(b"\x7fELF of another machine")
-    yield made.wants("a program of another machine", 17, status=2, out=b"", said="cannot be run here")
+    yield made.wants("a program of another machine", 16, status=2, out=b"", said="cannot be run here")
 
 
 def subcommands(folder: Path) -> Iterator[str]:

@@ -7,7 +7,7 @@ ghost use Rattle.std.specs.Prelude.{◌≡◌, true, List, ℕ, ◌<◌, ◌≤�
 ghost use Rattle.std.specs.Int.{w64};
 ghost use Rattle.std.proofs.Common.{of_z};
 ghost use Rattle.model.specs.Lists.{all_at_most};
-ghost use Rattle.model.specs.Command.{new, alloc, set, load, store, report as reportCommand, figure, registers_of};
+ghost use Rattle.model.specs.Command.{new, alloc, set, load, store, report as report_command, figure, registers_of};
 ghost use Rattle.model.specs.Run.{program_bounds};
 ghost use Rattle.theorems.specs.Program.{program_words, program_scratch};
 ghost use Rattle.value.specs.Value.{value_cell};
@@ -218,7 +218,7 @@ fn store_in(
 fn report_in(image: &mut [u64], registers: Registers) -> Acted
     requires held { Held image.old }
     requires good { Good registers }
-    ensures { Acts reportCommand image.old registers result.answer image.new result.registers }
+    ensures { Acts report_command image.old registers result.answer image.new result.registers }
 {
     if image.len() == 0 {
         return refused(14, registers);

@@ -2,7 +2,7 @@
 ghost use Rattle.std.specs.Prelude.{◌≡◌, cond, [], ◌∷◌, ◌+◌, ◌%◌, ◌<◌, ◌≤◌, nat_abs, length};
 ghost use Rattle.std.specs.Int.{w64};
 ghost use Rattle.std.proofs.Common.{of_z};
-ghost use Rattle.model.specs.Listing.{decimal as decimalText, spaced as spacedText, signed as signedText};
+ghost use Rattle.model.specs.Listing.{decimal as decimal_text, spaced as spaced_text, signed as signed_text};
 ghost use Rattle.figure.specs.Written.{Wrote};
 
 pub fn byte(b: u8, out: &mut [u8], at: usize) -> usize
@@ -34,7 +34,7 @@ pub fn minus(negative: bool, out: &mut [u8], at: usize) -> usize
 
 // How many digits n has.
 fn width(n: u64) -> usize
-    ensures { result ≡ length (decimalText n) }
+    ensures { result ≡ length (decimal_text n) }
 {
     let mut count = 1;
     let mut rest = n;
@@ -48,7 +48,7 @@ fn width(n: u64) -> usize
 // From the last digit to the first.
 pub fn decimal(n: u64, out: &mut [u8], at: usize) -> usize
     requires { at + 20 ≤ length out.old }
-    ensures { Wrote (decimalText n) out.old at out.new result }
+    ensures { Wrote (decimal_text n) out.old at out.new result }
 {
     let end = at + width(n);
     let mut i = end;
@@ -64,7 +64,7 @@ pub fn decimal(n: u64, out: &mut [u8], at: usize) -> usize
 // After a space.
 pub fn spaced(n: u64, out: &mut [u8], at: usize) -> usize
     requires { at + 21 ≤ length out.old }
-    ensures { Wrote (spacedText (n ∷ [])) out.old at out.new result }
+    ensures { Wrote (spaced_text (n ∷ [])) out.old at out.new result }
 {
     let next = byte(0x20, out, at);
     decimal(n, out, next)
@@ -83,7 +83,7 @@ fn magnitude(x: i64) -> u64
 
 pub fn signed(x: i64, out: &mut [u8], at: usize) -> usize
     requires { at + 21 ≤ length out.old }
-    ensures { Wrote (signedText (of_z w64 x)) out.old at out.new result }
+    ensures { Wrote (signed_text (of_z w64 x)) out.old at out.new result }
 {
     let next = minus(x < 0, out, at);
     decimal(magnitude(x), out, next)

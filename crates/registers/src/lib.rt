@@ -8,7 +8,7 @@ ghost use Rattle.registers.specs.Cells.{register_of, unset, cells_of_registers, 
 
 use value::{Value, encode, value_of};
 
-// A struct's array may hold structs, and no enums: so each value stands in a struct.
+// Each value stands in a struct.
 #[derive(Clone, Copy)]
 pub struct Register {
     pub value: Value,

@@ -1,7 +1,7 @@
 // The elder generation's slots, packed in base order, in an image's words.
 //
-// A reading function takes the lengths and the cells' words as two slices. A writing one takes a single slice, since two parts
-// of one slice can't be lent together: s lengths, other words up to `at`, the cells' words.
+// A reading function takes the lengths and the cells' words as two slices. A writing one takes a single slice, and promises what
+// becomes of all of it: s lengths, other words up to `at`, the cells' words.
 #![tactic(auto)]
 
 ghost use Rattle.std.specs.Prelude.{◌≡◌, true, [], map, ◌+◌, ◌-◌, ◌*◌, ◌^◌, ◌≤◌, ◌<◌, length, get_or, take, set, replicate};
