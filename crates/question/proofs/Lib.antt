@@ -1,0 +1,2 @@
+-- Passing: what the exit of a `?` answers.
+pub mod Passing
