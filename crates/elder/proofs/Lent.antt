@@ -5,7 +5,7 @@ use Prim.Native.Nat.{ℕ, ◌+◌, ◌-◌, ◌*◌, ◌/◌, ◌≤◌}
 use native.Mathlib.Omega.{arith}
 use lib.Dec.{leb}
 use lib.ListN.{length, take, drop, length-map}
-use lib.Seq.{take-length, drop-drop}
+use lib.Seq.{drop-drop}
 use Rattle.model.specs.Lists.{places, sum}
 use Rattle.model.specs.Res.{Res}
 use Rattle.model.specs.Records.{cells_of}
@@ -60,16 +60,16 @@ full_is p r e = record { reads = λ h i. rw (r.reads h i, e, lens-lent i p, held
 -- `members`
 
 module _ {w : List ℕ} {l : Layout} (p : Laid w l) (i : Image w (decode w)) (roots : List ℕ) {n : ℕ} (room : 3 * (length roots / 3 + (decode w).size.s + (decode w).size.c) ≤ n) where
-  pub trace-room : (sum (lens_in w l) * 3 ≤ length (old_cells_in w l)) × (3 * (length roots / 3 + length (lens_in w l) + sum (lens_in w l)) ≤ n)
+  pub trace-room : (sum (lens_in w l) * 3 ≤ length (old_cells_in w l)) × (3 * (length roots / 3 + (length (lens_in w l) + sum (lens_in w l))) ≤ n)
   trace-room = (omega (arith, packed-sum (parts-formed i p), (parts-formed i p).fits), omega (arith, lens-count i p, lens-sum i p))
 
   pub listed : (ms : List ℕ) {r : ℕ} {list : List ℕ} → length list ≡ n
-      → ((e : Elder) → e.slots ≡ cut (lens_in w l) (cells_of (sum (lens_in w l)) (old_cells_in w l)) → members r list ≡ old_members e (cells_in roots) (take (length ms) ms))
+      → ((e : Elder) → e.slots ≡ cut (lens_in w l) (cells_of (sum (lens_in w l)) (old_cells_in w l)) → members r list ≡ old_members e (cells_in roots) ms)
       → Listed (cells_in roots) ms w r list
   unfolding slots_of
   listed ms {r} {list} k t =
       let are : (h : Heap) → Image w h → members r list ≡ old_members h.old (cells_in roots) ms =
-      λ h j. rw (take-length ms) at (t h.old (sym (slots_lent j p))) in
+      λ h j. t h.old (sym (slots_lent j p)) in
       record {
         are = are;
         fits = omega (arith, k, length-members r list, ap length (are (decode w) i), old-few (decode w).old (cells_in roots) ms, in-length roots, i.fit.old.slots, i.fit.old.room);

@@ -58,14 +58,7 @@ fn members(image: &[u64], roots: &[u64], masks: &[u64], list: &mut [u64]) -> usi
     let from = l.slots;
     let end = l.young;
     let at = l.old;
-    trace::trace_old(
-        roots,
-        &image[from..end],
-        &image[at..],
-        masks,
-        masks.len(),
-        list,
-    )
+    trace::list_members(1, roots, &image[from..end], &image[at..], masks, list)
 }
 
 // The cells of what is no member counted out.

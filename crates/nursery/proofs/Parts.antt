@@ -6,7 +6,6 @@ use Prim.Native.Nat.{ℕ, zero, suc, ◌+◌, ◌-◌, ◌*◌, ◌/◌, ◌≤�
 use native.Mathlib.Omega.{arith}
 use lib.Dec.{ltb}
 use lib.ListN.{length, get_or, take, drop}
-use lib.Seq.{take-length}
 use Rattle.model.specs.Records.{Ptr, Cell, cell_words}
 use Rattle.model.specs.Heap.{Nursery, Heap, part}
 use Rattle.model.specs.Image.{Regions, regions, decode}
@@ -72,10 +71,10 @@ module _ {w : List ℕ} {l : Layout} (p : Laid w l) where
 
   -- the members that the list holds
   module _ (i : Image w (decode w)) (roots ms list : List ℕ) (r : ℕ) {m : ℕ}
-      (traced : (y : Nursery) → y.lens ≡ lens_at l w → y.cells ≡ cells_in (cells_at l w) → members r list ≡ young_members y (cells_in roots) (take (length ms) ms))
+      (traced : (y : Nursery) → y.lens ≡ lens_at l w → y.cells ≡ cells_in (cells_at l w) → members r list ≡ young_members y (cells_in roots) ms)
       (room : 3 * (length roots / 3 + 2 * (decode w).size.n) ≤ m) (kept : length list ≡ m) where
     members-are : (h : Heap) → Image w h → members r list ≡ young_members h.young (cells_in roots) ms
-    members-are h j = rw take-length at (traced h.young (sym (lens-are j)) (cells-in j))
+    members-are h j = traced h.young (sym (lens-are j)) (cells-in j)
 
     pub listed : Listed (cells_in roots) ms w r list
     listed =

@@ -41,14 +41,7 @@ fn members(image: &[u64], roots: &[u64], masks: &[u64], list: &mut [u64]) -> usi
     let end = l.slots;
     let at = l.young;
     let behind = l.old;
-    trace::trace_young(
-        roots,
-        &image[from..end],
-        &image[at..behind],
-        masks,
-        masks.len(),
-        list,
-    )
+    trace::list_members(0, roots, &image[from..end], &image[at..behind], masks, list)
 }
 
 // Question 6 of the first count entries.

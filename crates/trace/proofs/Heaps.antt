@@ -19,6 +19,7 @@ use Rattle.theorems.proofs.Members.{young-few, old-few}
 use Rattle.trace.specs.Words.{tab, members, Room}
 use Rattle.trace.specs.Places.{own_at}
 use Rattle.trace.specs.Leads.{begins_at, leads_to, Inside}
+use Rattle.trace.specs.Traces.{Within, most_members, Traced}
 use Rattle.trace.proofs.Closure.{walk_more}
 use Rattle.trace.proofs.Places.{in-length, own-flat}
 use Rattle.words.proofs.Sums.{sum-within}
@@ -149,3 +150,30 @@ module _ (roots lens cells ms v w : List ℕ) (n : ℕ)
 
   pub old-done : {m : List Ptr} → m ≡ walk same_ptr (leads_to 1 lens cells) (length w) 0 (members n w) → (e : Elder) → e.slots ≡ cut lens (cells_of (sum lens) cells) → m ≡ old_members e (cells_in roots) ms
   old-done q e is = q ∙ old-walked e is
+
+-- either heap
+
+pub own-inside : (own : ℕ) (lens cells : List ℕ) → own < 2 → Within own lens cells → Inside own lens cells
+own-inside zero lens cells s f = young-inside lens cells f.0 f.1
+own-inside (suc zero) lens cells s f = old-inside lens cells f
+own-inside (suc (suc k)) lens cells s f = absurd (omega arith)
+
+pub own-room : (own : ℕ) (roots lens cells ms v w : List ℕ) (n : ℕ) → own < 2 → Within own lens cells
+    → members n w ≡ enter same_ptr [] (pointers (cells_in roots) ++ matched own ms (places 0 lens)) → 3 * (length roots / 3 + most_members own lens) ≤ length v → length w ≡ length v
+    → Room w (walk same_ptr (leads_to own lens cells) (length w) 0 (members n w))
+own-room zero roots lens cells ms v w n s f b r k = young-room roots lens cells ms v w n f.0 f.1 b r k
+own-room (suc zero) roots lens cells ms v w n s f b r k = old-room roots lens cells ms v w n b r' k
+  where
+    r' : 3 * (length roots / 3 + length lens + sum lens) ≤ length v
+    r' = omega arith
+own-room (suc (suc j)) roots lens cells ms v w n s f b r k = absurd (omega arith)
+
+pub own-done : (own : ℕ) (roots lens cells ms v w : List ℕ) (n : ℕ) {m : List Ptr} → own < 2 → Within own lens cells
+    → members n w ≡ enter same_ptr [] (pointers (cells_in roots) ++ matched own ms (places 0 lens)) → 3 * (length roots / 3 + most_members own lens) ≤ length v → length w ≡ length v
+    → m ≡ walk same_ptr (leads_to own lens cells) (length w) 0 (members n w) → Traced own lens cells (cells_in roots) ms m
+own-done zero roots lens cells ms v w n s f b r k e = young-done roots lens cells ms v w n f.0 f.1 b r k e
+own-done (suc zero) roots lens cells ms v w n s f b r k e = old-done roots lens cells ms v w n b r' k e
+  where
+    r' : 3 * (length roots / 3 + length lens + sum lens) ≤ length v
+    r' = omega arith
+own-done (suc (suc j)) roots lens cells ms v w n s f b r k e = absurd (omega arith)

@@ -1,3 +1,4 @@
 pub mod Words
 pub mod Places
 pub mod Leads
+pub mod Traces

@@ -1,7 +1,7 @@
 // The list of members of a collection, in lent words, for either heap. It is the model's list, in the same order.
 #![tactic(auto)]
 
-ghost use Rattle.std.specs.Prelude.{◌≡◌, [], ◌++◌, ℕ, ◌+◌, ◌*◌, ◌/◌, ◌^◌, ◌≤◌, ◌<◌, length, get_or, take};
+ghost use Rattle.std.specs.Prelude.{◌≡◌, [], ◌++◌, ℕ, ◌+◌, ◌*◌, ◌/◌, ◌^◌, ◌≤◌, ◌<◌, length, get_or};
 ghost use Rattle.model.specs.Lists.{flat, sum, places};
 ghost use Rattle.model.specs.Reach.{mem, add, enter, walk};
 ghost use Rattle.model.specs.Records.{same_ptr, pointers, cells_of};
@@ -14,6 +14,7 @@ ghost use Rattle.model.specs.Calls.{cells_in};
 ghost use Rattle.trace.specs.Words.{tab, pointer, ptr_at, members, stored, Room};
 ghost use Rattle.trace.specs.Places.{root_at, own_at, base_at};
 ghost use Rattle.trace.specs.Leads.{begins_at, leads_to, Inside};
+ghost use Rattle.trace.specs.Traces.{Within, most_members, Traced};
 
 // Is entry i of the list (heap, base, offset)? Entries differ in their bases mostly, so these come first.
 fn is_at(list: &[u64], i: usize, heap: u64, base: u64, offset: u64) -> bool
@@ -68,20 +69,11 @@ fn enter_one(list: &mut [u64], count: usize, heap: u64, base: u64, offset: u64) 
     count + 1
 }
 
-// Does one of the first count masks match the base?
-pub fn matches(masks: &[u64], count: usize, base: u64) -> bool
-    requires { count ≤ length masks.now }
-    ensures { result ≡ matches (take count masks.now) base }
+// Does a mask match the base?
+pub fn matches(masks: &[u64], base: u64) -> bool
+    ensures { result ≡ matches masks.now base }
 {
-    let mut i = 0;
-    while i < count {
-        let mask = masks[i];
-        if mask & base == mask {
-            return true;
-        }
-        i += 1;
-    }
-    false
+    masks.iter().any(|mask| *mask & base == *mask)
 }
 
 // Enters the k-th root, if it is a pointer: its heap then stands in the first word too.
@@ -111,10 +103,8 @@ fn enter_roots(roots: &[u64], list: &mut [u64]) -> usize
 {
     let cells = roots.len() / 3;
     let mut n = 0;
-    let mut k = 0;
-    while k < cells {
+    for k in 0..cells {
         n = enter_root(roots, k, list, n);
-        k += 1;
     }
     n
 }
@@ -125,62 +115,42 @@ fn enter_base(
     b: usize,
     own: u64,
     masks: &[u64],
-    mask_count: usize,
     list: &mut [u64],
     count: usize,
 ) -> usize
     requires b_in_bounds { b < length lens.now }
-    requires mask_count_in_bounds { mask_count ≤ length masks.now }
-    requires room { Room list.old (enter same_ptr (members count list.old) (base_at own (take mask_count masks.now) lens.now b)) }
-    ensures { members result list.new ≡ enter same_ptr (members count list.old) (base_at own (take mask_count masks.now) lens.now b) }
+    requires room { Room list.old (enter same_ptr (members count list.old) (base_at own masks.now lens.now b)) }
+    ensures { members result list.new ≡ enter same_ptr (members count list.old) (base_at own masks.now lens.now b) }
 {
     if lens[b] == 0 {
         return count;
     }
     let base = b as u64;
-    if matches(masks, mask_count, base) {
+    if matches(masks, base) {
         return enter_one(list, count, own, base, 0);
     }
     count
 }
 
 // Enters each allocation that a mask matches.
-fn enter_matched(
-    lens: &[u64],
-    own: u64,
-    masks: &[u64],
-    mask_count: usize,
-    list: &mut [u64],
-    count: usize,
-) -> usize
-    requires mask_count_in_bounds { mask_count ≤ length masks.now }
-    requires room { Room list.old (enter same_ptr (members count list.old) (matched own (take mask_count masks.now) (places 0 lens.now))) }
-    ensures { members result list.new ≡ enter same_ptr (members count list.old) (matched own (take mask_count masks.now) (places 0 lens.now)) }
+fn enter_matched(lens: &[u64], own: u64, masks: &[u64], list: &mut [u64], count: usize) -> usize
+    requires room { Room list.old (enter same_ptr (members count list.old) (matched own masks.now (places 0 lens.now))) }
+    ensures { members result list.new ≡ enter same_ptr (members count list.old) (matched own masks.now (places 0 lens.now)) }
 {
     let mut n = count;
-    let mut b = 0;
-    while b < lens.len() {
-        n = enter_base(lens, b, own, masks, mask_count, list, n);
-        b += 1;
+    for b in 0..lens.len() {
+        n = enter_base(lens, b, own, masks, list, n);
     }
     n
 }
 
 // The list that a collection starts from: all root pointers, then the allocations that a mask matches.
-pub fn start(
-    roots: &[u64],
-    lens: &[u64],
-    own: u64,
-    masks: &[u64],
-    mask_count: usize,
-    list: &mut [u64],
-) -> usize
-    requires mask_count_in_bounds { mask_count ≤ length masks.now }
+pub fn start(roots: &[u64], lens: &[u64], own: u64, masks: &[u64], list: &mut [u64]) -> usize
     requires lens_in_bounds { 3 * (length roots.now / 3 + length lens.now) ≤ length list.old }
-    ensures { members result list.new ≡ enter same_ptr [] (pointers (cells_in roots.now) ++ matched own (take mask_count masks.now) (places 0 lens.now)) }
+    ensures { members result list.new ≡ enter same_ptr [] (pointers (cells_in roots.now) ++ matched own masks.now (places 0 lens.now)) }
 {
     let count = enter_roots(roots, list);
-    enter_matched(lens, own, masks, mask_count, list, count)
+    enter_matched(lens, own, masks, list, count)
 }
 
 // Enters the k-th cell, if it is a pointer to the heap own.
@@ -204,12 +174,9 @@ fn scan(cells: &[u64], from: usize, len: usize, own: u64, list: &mut [u64], coun
     requires room { Room list.old (enter same_ptr (members count list.old) (flat (tab (own_at own cells.now) from len))) }
     ensures { members result list.new ≡ enter same_ptr (members count list.old) (flat (tab (own_at own cells.now) from len)) }
 {
-    let end = from + len;
     let mut n = count;
-    let mut k = from;
-    while k < end {
+    for k in from..from + len {
         n = enter_own(cells, k, own, list, n);
-        k += 1;
     }
     n
 }
@@ -256,6 +223,7 @@ fn walk(lens: &[u64], cells: &[u64], own: u64, list: &mut [u64], count: usize) -
 {
     let mut n = count;
     let mut p = 0;
+    // (d) a while: the list grows as it is walked, so its entries are no range or slice that a `for` could go over.
     while p < n {
         n = visit(lens, cells, own, list, n, p);
         p += 1;
@@ -263,39 +231,20 @@ fn walk(lens: &[u64], cells: &[u64], own: u64, list: &mut [u64], count: usize) -
     n
 }
 
-// The members of a collection of the nursery.
-pub fn trace_young(
+// The members of a collection of the heap own.
+pub fn list_members(
+    own: u64,
     roots: &[u64],
     lens: &[u64],
     cells: &[u64],
     masks: &[u64],
-    mask_count: usize,
     list: &mut [u64],
 ) -> usize
-    requires mask_count_in_bounds { mask_count ≤ length masks.now }
-    requires cells_len { length cells.now ≡ 3 * length lens.now }
-    requires by_index { (b : ℕ) → 0 < get_or lens.now b 0 → b + get_or lens.now b 0 ≤ length lens.now }
-    requires lens_in_bounds { 3 * (length roots.now / 3 + 2 * length lens.now) ≤ length list.old }
-    ensures { (y : Nursery) → y.lens ≡ lens.now → y.cells ≡ cells_in cells.now → members result list.new ≡ young_members y (cells_in roots.now) (take mask_count masks.now) }
+    requires own_bound { own < 2 }
+    requires within { Within own lens.now cells.now }
+    requires lens_in_bounds { 3 * (length roots.now / 3 + most_members own lens.now) ≤ length list.old }
+    ensures { Traced own lens.now cells.now (cells_in roots.now) masks.now (members result list.new) }
 {
-    let count = start(roots, lens, 0, masks, mask_count, list);
-    walk(lens, cells, 0, list, count)
-}
-
-// The members of a collection of the elder generation.
-pub fn trace_old(
-    roots: &[u64],
-    lens: &[u64],
-    cells: &[u64],
-    masks: &[u64],
-    mask_count: usize,
-    list: &mut [u64],
-) -> usize
-    requires mask_count_in_bounds { mask_count ≤ length masks.now }
-    requires lens_in_bounds { sum lens.now * 3 ≤ length cells.now }
-    requires lens_in_bounds_2 { 3 * (length roots.now / 3 + length lens.now + sum lens.now) ≤ length list.old }
-    ensures { (e : Elder) → e.slots ≡ cut lens.now (cells_of (sum lens.now) cells.now) → members result list.new ≡ old_members e (cells_in roots.now) (take mask_count masks.now) }
-{
-    let count = start(roots, lens, 1, masks, mask_count, list);
-    walk(lens, cells, 1, list, count)
+    let count = start(roots, lens, own, masks, list);
+    walk(lens, cells, own, list, count)
 }

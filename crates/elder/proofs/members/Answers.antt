@@ -6,14 +6,14 @@ use Rattle.elder.proofs.members.Goals as goal
 pub layout_of-l-requires : goal.layout_of-l-requires
 layout_of-l-requires c = search (image-says-sized, rules)
 
-pub trace_old-requires : goal.trace_old-requires
-trace_old-requires c =
+pub list_members-requires : goal.list_members-requires
+list_members-requires c =
     let others = trace-room c.layout_of-l.ensures c.requires.image c.args.roots.now c.requires.image_in_bounds in record {
-      mask_count_in_bounds = search rules;
-      lens_in_bounds = others.0;
-      lens_in_bounds_2 = others.1;
+      own_bound = search rules;
+      within = others.0;
+      lens_in_bounds = others.1;
     }
 
 pub returns : goal.returns
 returns c =
-    listed c.layout_of-l.ensures c.requires.image c.args.roots.now c.requires.image_in_bounds c.args.masks.now (search rules) c.trace_old.ensures
+    listed c.layout_of-l.ensures c.requires.image c.args.roots.now c.requires.image_in_bounds c.args.masks.now (search rules) c.list_members.ensures

@@ -6,15 +6,14 @@ use Rattle.nursery.proofs.members.Goals as goal
 pub layout_of-l-requires : goal.layout_of-l-requires
 layout_of-l-requires c = image-says-sized c.requires.image
 
-pub trace_young-requires : goal.trace_young-requires
-trace_young-requires c =
+pub list_members-requires : goal.list_members-requires
+list_members-requires c =
     let p = c.layout_of-l.ensures in record {
-      mask_count_in_bounds = search rules;
-      cells_len = cells-long p c.requires.image;
-      by_index = lens-inside p c.requires.image;
+      own_bound = search rules;
+      within = (cells-long p c.requires.image, lens-inside p c.requires.image);
       lens_in_bounds = list-room p c.requires.image _ _ c.requires.image_in_bounds;
     }
 
 pub returns : goal.returns
 returns c =
-    listed c.layout_of-l.ensures c.requires.image _ _ _ _ c.trace_young.ensures c.requires.image_in_bounds c.trace_young.auto.list
+    listed c.layout_of-l.ensures c.requires.image _ _ _ _ c.list_members.ensures c.requires.image_in_bounds c.list_members.auto.list

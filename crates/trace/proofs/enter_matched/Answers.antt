@@ -25,7 +25,6 @@ loop-b-init c = search begin
 pub enter_base-n-requires : goal.enter_base-n-requires
 enter_base-n-requires c = record {
   b_in_bounds = search rules;
-  mask_count_in_bounds = search rules;
   room = search enter-room;
 }
 

@@ -1,5 +1,4 @@
-use Prim.Native.Nat.{◌-◌}
-use lib.ListN.{length, take}
+use lib.ListN.{length}
 use Rattle.model.specs.Reach.{enter}
 use Rattle.model.specs.Records.{same_ptr}
 use Rattle.model.specs.Lists.{places}
@@ -10,7 +9,4 @@ use Rattle.trace.proofs.Entering.{Entering}
 use Rattle.trace.proofs.enter_matched.Given as goal
 
 abbrev pub invariant-loop-b : goal.invariant-loop-b
-invariant-loop-b l = Entering (base_at l.own (take l.mask_count l.masks) l.lens) (length l.lens) (enter same_ptr (members l.count l.initial.list) (matched l.own (take l.mask_count l.masks) (places 0 l.lens))) (length l.initial.list) l.b l.list l.n
-
-abbrev pub decreases-loop-b : goal.decreases-loop-b
-decreases-loop-b l = length l.lens - l.b
+invariant-loop-b l = Entering (base_at l.own l.masks l.lens) (length l.lens) (enter same_ptr (members l.count l.initial.list) (matched l.own l.masks (places 0 l.lens))) (length l.initial.list) l.b l.list l.n

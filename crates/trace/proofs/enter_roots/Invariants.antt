@@ -1,5 +1,5 @@
 use mathlib.Core.List.{[]}
-use Prim.Native.Nat.{◌-◌, ◌/◌}
+use Prim.Native.Nat.{◌/◌}
 use lib.ListN.{length}
 use Rattle.model.specs.Reach.{enter}
 use Rattle.model.specs.Records.{same_ptr, pointers}
@@ -10,6 +10,3 @@ use Rattle.trace.proofs.enter_roots.Given as goal
 
 abbrev pub invariant-loop-k : goal.invariant-loop-k
 invariant-loop-k l = Entering (root_at l.roots) (length l.roots / 3) (enter same_ptr [] (pointers (cells_in l.roots))) (length l.initial.list) l.k l.list l.n
-
-abbrev pub decreases-loop-k : goal.decreases-loop-k
-decreases-loop-k l = length l.roots / 3 - l.k

@@ -1,41 +1,20 @@
-use mathlib.Core.Path.{◌≡◌, refl, ◌∙◌}
-use mathlib.Core.Bool.{true, false}
-use mathlib.Core.List.{List}
-use Prim.Native.Nat.{ℕ, ◌+◌, ◌≤◌, ◌<◌}
-use native.Mathlib.Numerals.{add-one}
-use native.Mathlib.Omega.{arith}
-use lib.Bits.{bit_and}
-use lib.ListN.{length, get_or, take}
-use lib.Seq.{slice_empty, slice-cons}
-use borrow.Author.Tests.{eq-eqb, ne_eqb}
+use Rattle.std.proofs.Common.{◌≡◌, ℕ, Bool, eqb, List, [], ◌∷◌, ◌||◌, bit_and, refl, ap, ◌∙◌, rules, tests}
+use Rattle.std.specs.List.{list_any}
+use Rattle.std.proofs.lemmas.Iterator.{YieldsList-from_slice}
+use Rattle.std.proofs.lemmas.Iterator.Search.{any_from_yields_List}
 use Rattle.model.specs.Barrier.{matches_mask, matches}
-use Rattle.trace.proofs.matches.Invariants.{Looked}
 use Rattle.trace.proofs.matches.Goals as goal
 
-begin : (w : List ℕ) (n b : ℕ) → Looked w n b 0
-begin w n b = record { within = omega arith; is = refl }
+abbrev one_matches : ℕ → ℕ → Bool
+one_matches b m = eqb (bit_and m b) m
 
-module _ {w : List ℕ} {n b i : ℕ} (v : Looked w n b i) where
-  hit : i < n → n ≤ length w → bit_and (get_or w i 0) b ≡ get_or w i 0 → true ≡ matches (take n w) b
-  unfolding matches matches_mask
-  hit h l e = rw (v.is, slice-cons i n w 0 h l, eq-eqb (bit_and (get_or w i 0) b) (get_or w i 0) e)
-
-  turn : i < n → n ≤ length w → (bit_and (get_or w i 0) b ≡ get_or w i 0 → ⊥) → Looked w n b (i + 1)
-  unfolding matches matches_mask
-  turn h l e = record { within = omega arith; is = v.is ∙ rw (slice-cons i n w 0 h l, ne_eqb (bit_and (get_or w i 0) b) (get_or w i 0) e, add-one) }
-
-  none : n ≤ i → false ≡ matches (take n w) b
-  unfolding matches
-  none h = let e : i ≡ n = omega (arith, v.within) in rw (v.is, e, slice_empty)
-
-pub loop-i-init : goal.loop-i-init
-loop-i-init c = search begin
-
-pub returns-then-mask-base : goal.returns-then-mask-base
-returns-then-mask-base c = search hit
-
-pub loop-i-preserved : goal.loop-i-preserved
-loop-i-preserved c = search turn
+any_matches : (ms : List ℕ) (b : ℕ) → list_any (one_matches b) ms ≡ matches ms b
+unfolding matches matches_mask
+any_matches [] b = refl
+any_matches (m ∷ ms) b = ap (λ t. one_matches b m || t) (any_matches ms b)
 
 pub returns : goal.returns
-returns c = search none
+returns c =
+    let ms = c.args.masks.now in
+    let b = c.args.base in
+    any_from_yields_List (one_matches b) _ _ _ c.any.ensures.ran (YieldsList-from_slice ms cc) (λ x r q k. search (rules, tests)) ∙ any_matches ms b

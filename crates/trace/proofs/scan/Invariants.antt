@@ -1,4 +1,4 @@
-use Prim.Native.Nat.{◌+◌, ◌-◌}
+use Prim.Native.Nat.{◌+◌}
 use lib.ListN.{length}
 use Rattle.model.specs.Reach.{enter}
 use Rattle.model.specs.Records.{same_ptr}
@@ -10,6 +10,3 @@ use Rattle.trace.proofs.scan.Given as goal
 
 abbrev pub invariant-loop-k : goal.invariant-loop-k
 invariant-loop-k l = Entering (own_at l.own l.cells) (l.from + l.len) (enter same_ptr (members l.count l.initial.list) (flat (tab (own_at l.own l.cells) l.from l.len))) (length l.initial.list) l.k l.list l.n
-
-abbrev pub decreases-loop-k : goal.decreases-loop-k
-decreases-loop-k l = l.from + l.len - l.k

@@ -3,7 +3,6 @@ use mathlib.Core.List.{List, [], ◌++◌}
 use Prim.Native.Nat.{ℕ, ◌+◌, ◌*◌, ◌/◌, ◌≤◌}
 use native.Mathlib.Omega.{arith}
 use lib.ListN.{length, length-map}
-use borrow.Author.Rules.{rules}
 use Rattle.model.specs.Lists.{places}
 use Rattle.model.specs.Reach.{enter}
 use Rattle.model.specs.Records.{Ptr, same_ptr, pointers}
@@ -39,7 +38,6 @@ enter_roots-count-requires c = search roots-room
 
 pub enter_matched-requires : goal.enter_matched-requires
 enter_matched-requires c = record {
-  mask_count_in_bounds = search rules;
   room = search matched-room;
 }
 

@@ -1,0 +1,13 @@
+use borrow.Author.Rules.{rules}
+use Rattle.trace.proofs.Heaps.{own-inside, own-room, own-done}
+use Rattle.trace.proofs.list_members.Goals as goal
+
+pub walk-requires : goal.walk-requires
+walk-requires c = record {
+  inside = search own-inside;
+  own_bound = search rules;
+  room = search own-room;
+}
+
+pub returns : goal.returns
+returns c = search own-done
