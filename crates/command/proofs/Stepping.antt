@@ -6,6 +6,7 @@ use mathlib.Core.Option.{some}
 use Prim.Native.Nat.{ℕ, ◌<◌}
 use lib.Ieee.{Float, binary64, of_bits}
 use lib.ListN.{length, get_or, set as put}
+use Rattle.std.specs.Prelude.{Result, Ok, Err}
 use Rattle.model.specs.Res.{Res, ok, refuse, ◌>>=◌}
 use Rattle.model.specs.Records.{Ptr, Cell, blank, cell_words, valid_words}
 use Rattle.model.specs.Heap.{Heap}
@@ -17,14 +18,14 @@ use Rattle.model.specs.Command.{set, load, store, figure}
 use Rattle.model.specs.Run.{State as ModelState, holding, register, Line, load_line, store_line, figure_line, the_heap, pointer_in, added, float_in, step}
 use Rattle.theorems.proofs.Res.{holds_at}
 use Rattle.theorems.proofs.Calls.{read-fit}
+use Rattle.question.specs.Question.{number}
+use Rattle.question.specs.declared.Question.{Question}
 use Rattle.value.specs.declared.Pointer.{Pointer}
 use Rattle.value.specs.declared.Value.{Value}
 use Rattle.value.specs.declared.Value.TheVariants.{Uninitialized, Int, Bool as BoolV, Float as FloatV, Char, Pointer as PointerV}
 use Rattle.value.specs.Value.{value_cell, Whole, Spelled}
 use Rattle.figure.specs.Answer.{figured_answer}
 use Rattle.figure.specs.declared.Figure.{Figure}
-use Rattle.figure.specs.declared.Figured.{Figured}
-use Rattle.figure.specs.declared.Figured.TheVariants as figured
 use Rattle.access.specs.Access.{pointer_of, loaded_cell, Loads, stored_outcome}
 use Rattle.access.specs.declared.Loaded.{Loaded}
 use Rattle.access.specs.declared.Loaded.TheVariants as loaded
@@ -85,14 +86,14 @@ module _ {w : List ℕ} {r : Registers} (k : ℕ) (h : Held w) (g : Good r) (v :
       go (ok b) = refl
       go (refuse q) = refl
 
-  module _ {n : Float} {b : ℕ} (is : v ≡ FloatV n b) (f : Figured) (e : figured_answer f ≡ figure_of n) where
+  module _ {n : Float} {b : ℕ} (is : v ≡ FloatV n b) (f : Result Figure Question) (e : figured_answer f ≡ figure_of n) where
     figure-answer : step (figure k) (state_of w r) ≡ (figured_answer f >>= shown (state_of w r))
     figure-answer = rw (figure-is, a-float v is (got-good r k at g).whole, ← e)
 
-    pub figure-refused : {q : ℕ} {a : Answer} {t : Registers} → f ≡ figured.Refused q → (a ≡ answer.Refused q) × (t ≡ r) → Acts (figure k) w r a w t
-    figure-refused i = refuses h g (rw (figure-answer, i))
+    pub figure-refused : {q : Question} {n : ℕ} {a : Answer} {t : Registers} → f ≡ Err q → n ≡ number q → (a ≡ answer.Refused n) × (t ≡ r) → Acts (figure k) w r a w t
+    figure-refused i m = refuses h g (rw (figure-answer, i, m))
 
-    pub figure-done : {x : Figure} → f ≡ figured.Is x → Acts (figure k) w r (answer.Figure x) w r
+    pub figure-done : {x : Figure} → f ≡ Ok x → Acts (figure k) w r (answer.Figure x) w r
     unfolding holding state_of
     figure-done i = answers (rw (figure-answer, i)) tt h g
 

@@ -21,7 +21,6 @@ ghost use Rattle.command.specs.Steps.{target_answer, target_in, is_new, Acts, Pe
 use access::{Loaded, Stored};
 pub use answers::Answer;
 use collector::Allocated;
-use figure::Figured;
 use image::Made;
 use reader::Command;
 use registers::Registers;
@@ -78,11 +77,11 @@ fn take_figure(registers: Registers, register: usize) -> Acted
         return refused(15, registers);
     };
     match figure::figure_of(number) {
-        Figured::Is(f) => Acted {
+        Ok(f) => Acted {
             answer: Answer::Figure(f),
             registers,
         },
-        Figured::Refused(q) => refused(q, registers),
+        Err(q) => refused(q.number(), registers),
     }
 }
 

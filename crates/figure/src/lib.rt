@@ -9,17 +9,12 @@ ghost use Rattle.figure.specs.Written.{Wrote};
 
 pub mod text;
 
+use question::Question;
+
 #[derive(Clone, Copy)]
 pub struct Figure {
     pub negative: bool,
     pub thousandths: u64,
-}
-
-// A figure, or the number of the question that got a no.
-#[derive(Clone, Copy)]
-pub enum Figured {
-    Is(Figure),
-    Refused(u64),
 }
 
 // a / c rounded to a whole number. The rule for a tie stands here alone.
@@ -50,35 +45,29 @@ fn thousandths(q: u64, h: u64) -> u64
     round(1000 * q, 1u64 << h)
 }
 
-// The limit of question 15, on the rounded number. Zero has no sign.
-fn within_limit(negative: bool, k: u64) -> Figured
+// The limit on the rounded number. Zero has no sign.
+fn within_limit(negative: bool, k: u64) -> Result<Figure, Question>
     ensures { figured_answer result ≡ limited negative k }
 {
     if 999999999 < k {
-        return Figured::Refused(15);
+        return Err(Question::Figure);
     }
-    if k == 0 {
-        return Figured::Is(Figure {
-            negative: false,
-            thousandths: 0,
-        });
-    }
-    Figured::Is(Figure {
-        negative,
+    Ok(Figure {
+        negative: negative && 0 < k,
         thousandths: k,
     })
 }
 
 // Of a Float's bits: a sign, an exponent field of 11 bits and 52 digits. From the field 1043 on the Float is 2^20 or more in
 // size, infinite or a NaN.
-pub fn figure_of_bits(bits: u64) -> Figured
+pub fn figure_of_bits(bits: u64) -> Result<Figure, Question>
     ensures { figured_answer result ≡ figure bits }
 {
     let negative = 0x8000_0000_0000_0000 <= bits;
     let field = bits % 0x8000_0000_0000_0000 / 0x10_0000_0000_0000;
     let digits = bits % 0x10_0000_0000_0000;
     if 1043 <= field {
-        return Figured::Refused(15);
+        return Err(Question::Figure);
     }
     if field == 0 {
         return within_limit(negative, thousandths(digits, 1074));
@@ -90,11 +79,11 @@ pub fn figure_of_bits(bits: u64) -> Figured
 }
 
 // A NaN is told apart first: it has no one pattern of bits.
-pub fn figure_of(x: f64) -> Figured
+pub fn figure_of(x: f64) -> Result<Figure, Question>
     ensures { figured_answer result ≡ figure_of x }
 {
     if x != x {
-        return Figured::Refused(15);
+        return Err(Question::Figure);
     }
     figure_of_bits(f64::to_bits(x))
 }

@@ -6,9 +6,12 @@ use mir.Syntax.{w64}
 use lib.IntN.{ℤ}
 use mir.Val.{SFits, to_z, of_z}
 use mir.ValLaws.{to_z-of_z}
-use Rattle.model.specs.Res.{Res}
+use Rattle.std.specs.Prelude.{Result, Ok, Err}
+use Rattle.model.specs.Res.{Res, ok, ◌>>=◌}
 use Rattle.model.specs.Records.{cell_words}
 use Rattle.model.specs.Calls.{Outcome}
+use Rattle.question.specs.Question.{number, answer}
+use Rattle.question.specs.declared.Question.{Question}
 use Rattle.value.specs.declared.Value.{Value}
 use Rattle.value.specs.Value.{value_cell}
 use Rattle.image.specs.Answers.{made_outcome}
@@ -27,11 +30,7 @@ use Rattle.report.specs.Numbers.{numbers, report_outcome}
 use Rattle.report.specs.declared.Statistics.{Statistics}
 use Rattle.report.specs.declared.Reported.{Reported}
 use Rattle.report.specs.declared.Reported.TheVariants as reported
-use Rattle.figure.specs.Answer.{model_figure, figured_answer}
-use Rattle.figure.specs.declared.Figure.{Figure}
-use Rattle.figure.specs.declared.Figured.{Figured}
-use Rattle.figure.specs.declared.Figured.TheVariants as figured
-use Rattle.heap_c.specs.Replies.{number_of, out_of, words_of, allocation_words, figure_words, figure_answer, Answers, Leaves, Reports, Allocates}
+use Rattle.heap_c.specs.Replies.{number_of, out_of, words_of, allocation_words, Answers, Leaves, Reports, Allocates}
 
 -- an i64 that is handed on, as the machine reads it back
 pub as-given : (x : ℤ) → SFits w64 x → {A : Type 0} (f : ℤ → A) {a : A} → f (to_z w64 (of_z w64 x)) ≡ a → f x ≡ a
@@ -103,15 +102,18 @@ unfolding number_of out_of report_outcome
 reported-refused {q = q} {before = before} e v =
     subst (λ (r : Reported). Reports (report_outcome r v) before q before v) (sym e) (record { answers = record { number = refl; written = refl }; image = refl })
 
--- figure
+-- an answer's words, by its value as the model has it
+pub words-of-answer : {T A : Type 0} (f : T → A) (g : A → List ℕ) (r : Result T Question) → answer (λ t. g (f t)) r ≡ (answer f r >>= λ a. ok (g a))
+words-of-answer f g (Ok x) = refl
+words-of-answer f g (Err q) = refl
 
-pub figured-is : {r : Figured} {f : Figure} {out before : List ℕ} → r ≡ figured.Is f → out ≡ figure_words (model_figure f) → Answers (figure_answer (figured_answer r)) before 0 out
-unfolding number_of out_of figure_answer
-figured-is {out = out} {before = before} e f = subst (λ (r : Figured). Answers (figure_answer (figured_answer r)) before 0 out) (sym e) (record { number = refl; written = f })
+pub answers-ok : {T : Type 0} (f : T → List ℕ) {r : Result T Question} {x : T} {out before : List ℕ} → r ≡ Ok x → out ≡ f x → Answers (answer f r) before 0 out
+unfolding number_of out_of
+answers-ok f {out = out} {before = before} e w = rw e (record { number = refl; written = w })
 
-pub figured-refused : {r : Figured} {q : ℕ} {before : List ℕ} → r ≡ figured.Refused q → Answers (figure_answer (figured_answer r)) before q before
-unfolding number_of out_of figure_answer
-figured-refused {q = q} {before = before} e = subst (λ (r : Figured). Answers (figure_answer (figured_answer r)) before q before) (sym e) (record { number = refl; written = refl })
+pub answers-err : {T : Type 0} (f : T → List ℕ) {r : Result T Question} {q : Question} {n : ℕ} {before : List ℕ} → r ≡ Err q → n ≡ number q → Answers (answer f r) before n before
+unfolding number_of out_of
+answers-err f {before = before} e m = rw e (record { number = m; written = refl })
 
 -- carried along
 

@@ -14,6 +14,7 @@ ghost use Rattle.model.specs.Figure.{figure};
 ghost use Rattle.model.specs.Calls.{scratch_length, reported, allocs, reads, writes, call, report_call, new_call};
 ghost use Rattle.theorems.specs.Doors.{on_formed};
 ghost use Rattle.theorems.specs.Fit.{Image};
+ghost use Rattle.question.specs.Question.{answer as answer_of};
 ghost use Rattle.value.specs.Value.{value_cell};
 ghost use Rattle.trace.specs.Words.{pointer};
 ghost use Rattle.image.specs.Places.{sizes};
@@ -26,10 +27,31 @@ ghost use Rattle.heap_c.specs.Replies.{words_of, allocation_words, figure_words,
 
 use access::{Loaded, Stored};
 use collector::{Allocated, Allocation};
-use figure::{Figure, Figured};
+use figure::Figure;
 use image::Made;
+use question::Question;
 use report::Reported;
 use value::{Pointer, Value};
+
+// What is handed to C as N words.
+trait Words<const N: usize>: Copy {
+    ghost words: { Self → List ℕ };
+
+    fn to_words(self) -> [u64; N]
+        ensures { result ≡ words self };
+}
+
+fn answer<T: Words<N>, const N: usize>(r: Result<T, Question>, out: &mut [u64; N]) -> u64
+    ensures { Answers (answer_of T.words r) out.old result out.new }
+{
+    match r {
+        Ok(t) => {
+            *out = t.to_words();
+            0
+        }
+        Err(q) => q.number(),
+    }
+}
 
 // The words of an image of these sizes, 0 if they are out of bounds.
 #[unsafe(no_mangle)]
@@ -248,21 +270,11 @@ pub extern "C" fn heap_report_formed(image: &mut [u64], out: &mut [u64; 11]) -> 
 // ---- Figure
 
 // 1 for a figure below zero, then the thousandths.
-fn figure_words(f: Figure) -> [u64; 2]
-    ensures { result ≡ figure_words (model_figure f) }
-{
-    [f.negative as u64, f.thousandths]
-}
+impl Words<2> for Figure {
+    ghost words = { λ f. figure_words (model_figure f) };
 
-fn answer_figured(r: Figured, out: &mut [u64; 2]) -> u64
-    ensures { Answers (figure_answer (figured_answer r)) out.old result out.new }
-{
-    match r {
-        Figured::Is(f) => {
-            *out = figure_words(f);
-            0
-        }
-        Figured::Refused(q) => q,
+    fn to_words(self) -> [u64; 2] {
+        [self.negative as u64, self.thousandths]
     }
 }
 
@@ -271,5 +283,5 @@ fn answer_figured(r: Figured, out: &mut [u64; 2]) -> u64
 pub extern "C" fn heap_figure(bits: u64, out: &mut [u64; 2]) -> u64
     ensures { Answers (figure_answer (figure bits)) out.old result out.new }
 {
-    answer_figured(figure::figure_of_bits(bits), out)
+    answer(figure::figure_of_bits(bits), out)
 }

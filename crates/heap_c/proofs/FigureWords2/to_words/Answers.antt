@@ -1,6 +1,6 @@
 use borrow.Author.Rules.{rules}
 use Rattle.heap_c.specs.Replies.{figure_words}
-use Rattle.heap_c.proofs.figure_words.Goals as goal
+use Rattle.heap_c.proofs.FigureWords2.to_words.Goals as goal
 
 pub returns : goal.returns
 unfolding figure_words
