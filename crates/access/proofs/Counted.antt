@@ -1,5 +1,5 @@
 -- What a write counts: the barrier's own steps, and the counts that they changed.
-use mathlib.Core.Path.{◌≡◌, refl, sym, ap, subst, ◌∙◌}
+use mathlib.Core.Path.{◌≡◌, refl, sym, subst, ◌∙◌}
 use mathlib.Core.Bool.{Bool, true, false, not}
 use mathlib.Core.List.{List}
 use Prim.Native.Nat.{ℕ, zero, suc, ◌-◌, ◌%◌, ◌<◌}
@@ -7,6 +7,7 @@ use native.Mathlib.Omega.{arith}
 use lib.Dec.{eqb, ltb}
 use lib.ListN.{get_or, set}
 use lib.Seq.{get_or-set_same}
+use Rattle.std.proofs.Common.{Result, Ok, Err}
 use Rattle.model.specs.Res.{Res, ok, refuse, ◌>>=◌, ask}
 use Rattle.model.specs.Records.{Cell, plain, ref, blank}
 use Rattle.model.specs.Barrier.{Barrier, absent, present, cache, most, counts, count, up, down, count_in, count_out}
@@ -15,10 +16,10 @@ use Rattle.model.specs.Image.{decode}
 use Rattle.theorems.specs.Fit.{FitBarrier, Image}
 use Rattle.theorems.specs.Does.{with_young, with_old}
 use Rattle.theorems.proofs.Barrier.{low_byte}
-use Rattle.barrier.specs.Counts.{barrier_of, answer_of, counted}
-use Rattle.barrier.specs.declared.Counting.{Counting}
-use Rattle.barrier.specs.declared.Counting.TheVariants as counting
-use Rattle.barrier.specs.declared.Counted.{Counted}
+use Rattle.question.specs.Question.{number, answer}
+use Rattle.question.specs.declared.Question.{Question}
+use Rattle.barrier.specs.Counts.{barrier_of}
+use Rattle.barrier.specs.declared.WriteBarrier.{WriteBarrier}
 use Rattle.barrier.proofs.Steps.{Steps, steps-in, steps-out}
 use Rattle.fields.specs.Fields.{Reads, Turns, with_bar, with_old_bar, bar_of, on_bar, with_count}
 use Rattle.fields.proofs.Parts.{decoded}
@@ -42,12 +43,12 @@ bar-over (suc k) b d h = refl
 
 -- a step that was answered
 
-module _ {m : Res Barrier} (r : Counted) (e : counted r ≡ m) where
-  pub step-done : r.answer ≡ counting.Done → m ≡ ok (barrier_of r.barrier)
-  step-done f = sym e ∙ ap (λ (a : Counting). answer_of a r.barrier) f
+module _ {m : Res Barrier} (r : Result WriteBarrier Question) (e : answer barrier_of r ≡ m) where
+  pub step-done : (d : WriteBarrier) → r ≡ Ok d → m ≡ ok (barrier_of d)
+  step-done d f = sym e ∙ rw f
 
-  pub step-refused : (q : ℕ) → r.answer ≡ counting.Refused q → m ≡ refuse q
-  step-refused q f = sym e ∙ ap (λ (a : Counting). answer_of a r.barrier) f
+  pub step-refused : (q : Question) → r ≡ Err q → m ≡ refuse (number q)
+  step-refused q f = sym e ∙ rw f
 
 -- what is counted out, if anything
 pub gone-counted : (out : Bool) (own : ℕ) (old new : Cell) → recounted own true (gone_if out old) new ≡ recounted own out old new
@@ -125,14 +126,14 @@ step-image : {own : ℕ} {f : Cell → Barrier → Res Barrier} → Counts own f
 step-image {own} k {h = h} i c {d} e t = rw (k.from c (bar_of own h) d (bar-fit i own) e) at (t.turns h i)
 
 -- what a step came to, stored
-module _ {w : List ℕ} (own : ℕ) (c : Cell) (r : Counted) where
-  pub step_kept : (q : ℕ) → r.answer ≡ counting.Refused q → Leaves (storing own c (counted r) (decode w)) w (Refused q) w
+module _ {w : List ℕ} (own : ℕ) (c : Cell) (r : Result WriteBarrier Question) where
+  pub step_kept : (q : Question) → r ≡ Err q → Leaves (storing own c (answer barrier_of r) (decode w)) w (Refused (number q)) w
   unfolding storing
-  step_kept q e = rw (step-refused r refl q e) kept
+  step_kept q e = rw e kept
 
-  pub step-stored : Image w (decode w) → r.answer ≡ counting.Done → {v : List ℕ} → Stores own c (barrier_of r.barrier) w v → Leaves (storing own c (counted r) (decode w)) w Done v
+  pub step-stored : Image w (decode w) → (d : WriteBarrier) → r ≡ Ok d → {v : List ℕ} → Stores own c (barrier_of d) w v → Leaves (storing own c (answer barrier_of r) (decode w)) w Done v
   unfolding storing
-  step-stored i e t = rw (step-done r refl e) (done (t.turns (decode w) i))
+  step-stored i d e t = rw e (done (t.turns (decode w) i))
 
 module _ {w : List ℕ} (i : Image w (decode w)) (own : ℕ) {b : Barrier} (r : Reads (λ h. bar_of own h) w b) where
   was : bar_of own (decode w) ≡ b

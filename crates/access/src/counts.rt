@@ -5,12 +5,14 @@ ghost use Rattle.model.specs.Barrier.{count_in, count_out};
 ghost use Rattle.model.specs.Image.{decode};
 ghost use Rattle.theorems.specs.Fit.{Image};
 ghost use Rattle.value.specs.Value.{value_cell};
-ghost use Rattle.barrier.specs.Counts.{barrier_of, counted};
+ghost use Rattle.question.specs.Question.{answer};
+ghost use Rattle.barrier.specs.Counts.{barrier_of};
 ghost use Rattle.fields.specs.Fields.{Turns, bar_of, on_bar};
 ghost use Rattle.access.specs.Counting.{gone_if, crosses, count_of, storing, recounted, on_counts, Leaves};
 
 use crate::Stored;
-use barrier::{Counted, Counting, WriteBarrier};
+use barrier::WriteBarrier;
+use question::Question;
 use value::Value;
 
 // What is counted out: the old value only if `out`.
@@ -48,17 +50,17 @@ fn store_count(image: &mut [u64], own: u8, v: Value, b: WriteBarrier)
 }
 
 // What a step on the barrier came to: the count of its value stored, or its refusal.
-fn store_step(image: &mut [u64], own: u8, v: Value, step: Counted) -> Stored
+fn store_step(image: &mut [u64], own: u8, v: Value, step: Result<WriteBarrier, Question>) -> Stored
     requires { Image image.old (decode image.old) }
-    ensures { Leaves (storing own (value_cell v) (counted step) (decode image.old)) image.old result image.new }
+    ensures { Leaves (storing own (value_cell v) (answer barrier_of step) (decode image.old)) image.old result image.new }
 {
-    let a = step.answer;
-    if let Counting::Refused(q) = a {
-        return Stored::Refused(q);
+    match step {
+        Ok(b) => {
+            store_count(image, own, v, b);
+            Stored::Done
+        }
+        Err(q) => Stored::Refused(q.number()),
     }
-    let b = step.barrier;
-    store_count(image, own, v, b);
-    Stored::Done
 }
 
 // One value counts.
@@ -84,18 +86,14 @@ fn count_both(image: &mut [u64], own: u8, old: Value, new: Value) -> Stored
     ensures { Leaves (on_counts own (recounted own true (value_cell old) (value_cell new)) (decode image.old)) image.old result image.new }
 {
     let b = fields::barrier_of(image, own);
-    let gone = b.count_out(own, old);
-    let a = gone.answer;
-    if let Counting::Refused(q) = a {
-        return Stored::Refused(q);
-    }
-    let less = gone.barrier;
-    let come = less.count_in(own, new);
-    let a = come.answer;
-    if let Counting::Refused(q) = a {
-        return Stored::Refused(q);
-    }
-    let more = come.barrier;
+    let less = match b.count_out(own, old) {
+        Ok(less) => less,
+        Err(q) => return Stored::Refused(q.number()),
+    };
+    let more = match less.count_in(own, new) {
+        Ok(more) => more,
+        Err(q) => return Stored::Refused(q.number()),
+    };
     store_count(image, own, old, less);
     store_count(image, own, new, more);
     Stored::Done

@@ -7,6 +7,7 @@ use native.Mathlib.Omega.{arith}
 use lib.Dec.{eqb}
 use lib.ListN.{length, get_or, drop, length-drop, drop_of_length-le}
 use lib.Seq.{drop-cons}
+use Rattle.std.proofs.Common.{Result, Ok, Err}
 use Rattle.model.specs.Res.{Res, ok, refuse, ◌>>=◌, each}
 use Rattle.model.specs.Records.{Cell, cell_if, cell_of, cells_of, valid_words, whole_cells}
 use Rattle.model.specs.Barrier.{Barrier}
@@ -15,9 +16,10 @@ use Rattle.theorems.proofs.Lists.{and_parts}
 use Rattle.theorems.proofs.Cells.{in-cons, whole_length}
 use Rattle.value.specs.declared.Value.{Value}
 use Rattle.value.specs.Value.{value_cell, Spelled}
-use Rattle.barrier.specs.declared.Counting.TheVariants.{Done, Refused}
-use Rattle.barrier.specs.declared.Counted.{Counted}
-use Rattle.barrier.specs.Counts.{barrier_of, counted, crossing, any_crossing}
+use Rattle.question.specs.Question.{number, answer}
+use Rattle.question.specs.declared.Question.{Question}
+use Rattle.barrier.specs.declared.WriteBarrier.{WriteBarrier}
+use Rattle.barrier.specs.Counts.{barrier_of, crossing, any_crossing}
 use Rattle.barrier.proofs.Steps.{Steps}
 
 -- a cell that does not cross changes nothing
@@ -133,11 +135,15 @@ module _ (f : Cell → Barrier → Res Barrier) (w : List ℕ) (b₀ : Barrier) 
       pub turn-skip : {own : ℕ} {g : ℕ → Barrier → Res Barrier} → Steps own f g → crossing (get_or w i 0) own ≡ false → Left f w b₀ (i + 3) b
       turn-skip s e = on b (skip s _ _ _ b e)
 
-      module _ (v : Value) (c : Counted) (s : Spelled (get_or w i 0) (get_or w (i + 1) 0) (get_or w (i + 2) 0) v) (e : counted c ≡ f (value_cell v) b) where
-        pub turn-done : c.answer ≡ Done → Left f w b₀ (i + 3) (barrier_of c.barrier)
-        turn-done d = on (barrier_of c.barrier) (ap (λ (x : Cell). f x b) (sym s.cell) ∙ sym e ∙ rw d)
+      -- a cell counted: the step's answer r is the model's
+      module _ (v : Value) (r : Result WriteBarrier Question) (s : Spelled (get_or w i 0) (get_or w (i + 1) 0) (get_or w (i + 2) 0) v) (e : answer barrier_of r ≡ f (value_cell v) b) where
+        same : answer barrier_of r ≡ f (cell_at w i) b
+        same = e ∙ ap (λ (x : Cell). f x b) s.cell
 
-        pub turn-refused : (q : ℕ) → c.answer ≡ Refused q → refuse q ≡ each f (cells_in w) b₀
-        turn-refused q d =
-            let no : f (cell_at w i) b ≡ refuse q = ap (λ (x : Cell). f x b) (sym s.cell) ∙ sym e ∙ rw d in
+        pub turn-done : (d : WriteBarrier) → r ≡ Ok d → Left f w b₀ (i + 3) (barrier_of d)
+        turn-done d k = on (barrier_of d) (sym same ∙ rw k)
+
+        pub turn-refused : (q : Question) → r ≡ Err q → refuse (number q) ≡ each f (cells_in w) b₀
+        turn-refused q k =
+            let no : f (cell_at w i) b ≡ refuse (number q) = sym same ∙ rw k in
             rw no at next

@@ -4,9 +4,11 @@ ghost use Rattle.model.specs.Res.{each};
 ghost use Rattle.model.specs.Records.{valid_words, whole_cells};
 ghost use Rattle.model.specs.Calls.{cells_in};
 ghost use Rattle.value.specs.Value.{Spelled};
-ghost use Rattle.barrier.specs.Counts.{barrier_of, step_of, HandsBack, crossing, any_crossing};
+ghost use Rattle.barrier.specs.Counts.{barrier_of, step_of, crossing, any_crossing};
+ghost use Rattle.question.specs.Question.{answer};
 
-use crate::{Counted, Counting, WriteBarrier};
+use crate::WriteBarrier;
+use question::Question;
 use value::Value;
 
 // Whether a cell with this first word counts. Tested first, since each count step copies the barrier.
@@ -39,27 +41,21 @@ pub fn any_crosses(cells: &[u64], own: u8) -> bool
 }
 
 // Each counted in if `into`, else out.
-pub fn count_cells(cells: &[u64], own: u8, into: bool, barrier: WriteBarrier) -> Counted
+pub fn count_cells(
+    cells: &[u64],
+    own: u8,
+    into: bool,
+    mut barrier: WriteBarrier,
+) -> Result<WriteBarrier, Question>
     requires { whole_cells cells.now ≡ true }
-    ensures { HandsBack (each (step_of into own) (cells_in cells.now) (barrier_of barrier)) (barrier_of barrier) result }
+    ensures { answer barrier_of result ≡ each (step_of into own) (cells_in cells.now) (barrier_of barrier) }
 {
-    let mut b = barrier;
     let mut i = 0;
     while i < cells.len() {
         if crosses(cells[i], own) {
-            let v = value_at(cells, i);
-            let c = b.count(own, into, v);
-            let a = c.answer;
-            let Counting::Done = a else {
-                return Counted { answer: a, barrier };
-            };
-            let next = c.barrier;
-            b = next;
+            barrier = barrier.count(own, into, value_at(cells, i))?;
         }
         i += 3;
     }
-    Counted {
-        answer: Counting::Done,
-        barrier: b,
-    }
+    Ok(barrier)
 }

@@ -8,8 +8,10 @@ pub mod words;
 ghost use Rattle.std.specs.Prelude.{◌≡◌, ◌%◌};
 ghost use Rattle.model.specs.Barrier.{absent, count_in, count_out};
 ghost use Rattle.value.specs.Value.{value_cell};
-ghost use Rattle.barrier.specs.Counts.{barrier_of, step_of, HandsBack};
+ghost use Rattle.barrier.specs.Counts.{barrier_of, step_of};
+ghost use Rattle.question.specs.Question.{answer};
 
+use question::Question;
 use value::Value;
 
 // The counts of an absent barrier are taken as zero, whatever the array holds.
@@ -17,19 +19,6 @@ use value::Value;
 pub struct WriteBarrier {
     pub present: bool,
     pub counts: [u32; 256],
-}
-
-// Refused has the number of the question that got a no.
-#[derive(Clone, Copy)]
-pub enum Counting {
-    Done,
-    Refused(u64),
-}
-
-#[derive(Clone, Copy)]
-pub struct Counted {
-    pub answer: Counting,
-    pub barrier: WriteBarrier,
 }
 
 impl WriteBarrier {
@@ -53,24 +42,17 @@ impl WriteBarrier {
         (base & Self::MASK) as usize
     }
 
-    // A value of the generation `own` counted in: only a pointer to the other heap counts.
-    pub fn count_in(mut self, own: u8, v: Value) -> Counted
-        ensures { HandsBack (count_in own (value_cell v) (barrier_of self)) (barrier_of self) result }
+    // A value of the generation `own` counted in: only a pointer to the other heap counts. The caller's own barrier stays as it is.
+    pub fn count_in(mut self, own: u8, v: Value) -> Result<Self, Question>
+        ensures { answer barrier_of result ≡ count_in own (value_cell v) (barrier_of self) }
     {
         let Value::Pointer(p) = v else {
-            return Counted {
-                answer: Counting::Done,
-                barrier: self,
-            };
+            return Ok(self);
         };
         if p.heap == own {
-            return Counted {
-                answer: Counting::Done,
-                barrier: self,
-            };
+            return Ok(self);
         }
-        let present = self.present;
-        if !present {
+        if !self.present {
             self.counts = [0u32; WriteBarrier::SIZE];
             self.present = true;
         }
@@ -78,53 +60,34 @@ impl WriteBarrier {
         let n = self.counts[at];
         // The bound of each count is the greatest number of its type.
         if u32::MAX <= n {
-            return Counted {
-                answer: Counting::Refused(11),
-                barrier: self,
-            };
+            return Err(Question::Bound);
         }
         self.counts[at] = n + 1;
-        Counted {
-            answer: Counting::Done,
-            barrier: self,
-        }
+        Ok(self)
     }
 
     // The same counted out; an absent barrier stays absent.
-    pub fn count_out(mut self, own: u8, v: Value) -> Counted
-        ensures { HandsBack (count_out own (value_cell v) (barrier_of self)) (barrier_of self) result }
+    pub fn count_out(mut self, own: u8, v: Value) -> Result<Self, Question>
+        ensures { answer barrier_of result ≡ count_out own (value_cell v) (barrier_of self) }
     {
         let Value::Pointer(p) = v else {
-            return Counted {
-                answer: Counting::Done,
-                barrier: self,
-            };
+            return Ok(self);
         };
-        let present = self.present;
-        if p.heap == own || !present {
-            return Counted {
-                answer: Counting::Done,
-                barrier: self,
-            };
+        if p.heap == own || !self.present {
+            return Ok(self);
         }
         let at = WriteBarrier::place(p.base);
         let n = self.counts[at];
         if n == 0 {
-            return Counted {
-                answer: Counting::Refused(10),
-                barrier: self,
-            };
+            return Err(Question::Count);
         }
         self.counts[at] = n - 1;
-        Counted {
-            answer: Counting::Done,
-            barrier: self,
-        }
+        Ok(self)
     }
 
     // Counted in if `into`, else out.
-    pub fn count(self, own: u8, into: bool, v: Value) -> Counted
-        ensures { HandsBack (step_of into own (value_cell v) (barrier_of self)) (barrier_of self) result }
+    pub fn count(self, own: u8, into: bool, v: Value) -> Result<Self, Question>
+        ensures { answer barrier_of result ≡ step_of into own (value_cell v) (barrier_of self) }
     {
         if into {
             self.count_in(own, v)

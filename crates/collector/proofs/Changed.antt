@@ -6,6 +6,7 @@ use Prim.Native.Nat.{ℕ, ◌+◌, ◌*◌, ◌-◌, ◌/◌, ◌≤◌}
 use native.Mathlib.Omega.{arith}
 use lib.ListN.{length, take, drop, length-drop}
 use lib.Seq.{take_all, length-take-le, get_or-take}
+use Rattle.std.proofs.Common.{Result, Ok, Err}
 use Rattle.model.specs.Res.{Res, ok, ◌>>=◌}
 use Rattle.model.specs.Barrier.{Barrier, masks}
 use Rattle.model.specs.Heap.{Sizes, Heap}
@@ -15,9 +16,8 @@ use Rattle.theorems.specs.Fit.{Image}
 use Rattle.theorems.specs.Does.{Does}
 use Rattle.theorems.proofs.Does.{answered, does-then, does-refused, does-same}
 use Rattle.theorems.proofs.Res.{holds_at}
-use Rattle.barrier.specs.Counts.{counting_answer}
-use Rattle.barrier.specs.declared.Counting.{Counting}
-use Rattle.barrier.specs.declared.Counting.TheVariants as counting
+use Rattle.question.specs.Question.{number, done_answer}
+use Rattle.question.specs.declared.Question.{Question}
 use Rattle.trace.proofs.Entries.{length-tab}
 use Rattle.trace.proofs.Places.{in-length}
 use Rattle.fields.specs.Fields.{Reads}
@@ -108,15 +108,15 @@ module _ {a : ℕ} {w roots s ms : List ℕ} (r : Ready w roots s (New a) 2 fals
     pub change-asked : length t ≡ length s → Image u (decode u) × ((scratch_length (decode u).size (length roots / 3) ≤ length t) × (g.moved ≤ length roots / 3 + 2 * (decode u).size.n))
     change-asked l = (image-then, (rw sizes-then (omega (arith, r.room)), rw sizes-then few-then))
 
-    module _ (c : Counting) {v : List ℕ} (n : Does (changes_step (moves_at (decode u).size (length roots / 3) g.moved t)) u (counting_answer c) v) where
-      changed : {x : Res Turn} → map_res (λ _. gave_turn z (length roots / 3) t g) (counting_answer c) ≡ x → Does (work_step (parts_in z s) (cells_in roots) a) w x v
+    module _ (c : Result (Unit {0}) Question) {v : List ℕ} (n : Does (changes_step (moves_at (decode u).size (length roots / 3) g.moved t)) u (done_answer c) v) where
+      changed : {x : Res Turn} → map_res (λ _. gave_turn z (length roots / 3) t g) (done_answer c) ≡ x → Does (work_step (parts_in z s) (cells_in roots) a) w x v
       unfolding work_step gave_turn then-change
       changed f = rw (← f) (does-then then-change gave (does-map (λ _. gave_turn z (length roots / 3) t g) (rw sizes-then at n)))
 
-      pub worked-done : c ≡ counting.Done → Worked a w roots s (At g) v t
-      unfolding counting_answer outcome_answer
-      worked-done f = record { does = changed (rw f); front = front }
+      pub worked-done : (y : Unit {0}) → c ≡ Ok y → Worked a w roots s (At g) v t
+      unfolding outcome_answer
+      worked-done y f = record { does = changed (rw f); front = front }
 
-      pub worked-uncounted : (q : ℕ) → c ≡ counting.Refused q → Worked a w roots s (Refused q) v t
-      unfolding counting_answer outcome_answer
+      pub worked-uncounted : (q : Question) → c ≡ Err q → Worked a w roots s (Refused (number q)) v t
+      unfolding outcome_answer
       worked-uncounted q f = record { does = changed (rw f); front = front }

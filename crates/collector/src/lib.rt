@@ -15,16 +15,16 @@ ghost use Rattle.theorems.specs.Doors.{on_formed};
 ghost use Rattle.theorems.specs.Fit.{Image};
 ghost use Rattle.theorems.specs.Does.{Does};
 ghost use Rattle.theorems.specs.Apart.{swap_roots};
-ghost use Rattle.barrier.specs.Counts.{counting_answer};
+ghost use Rattle.question.specs.Question.{done_answer};
 ghost use Rattle.pointers.specs.Steps.{changes_step};
 ghost use Rattle.cycle.specs.Outcomes.{Ready};
 ghost use Rattle.cycle.specs.declared.turns.Request.TheVariants.{New};
 ghost use Rattle.collector.specs.Alloc.{Worked, moves_at, gave_outcome, alloc_outcome};
 
-use barrier::Counting;
 use barrier::masks::Masks;
 use cycle::turns::{Gave, Outcome, Request};
 use image::Checked;
+use question::Question;
 use value::Pointer;
 
 // A generation's collections in one call, and their visits.
@@ -109,11 +109,16 @@ fn collected(g: Gave) -> Allocated
 }
 
 // Moved pointers are changed in both generations.
-fn change_heap(image: &mut [u64], roots: &[u64], scratch: &[u64], moved: usize) -> Counting
+fn change_heap(
+    image: &mut [u64],
+    roots: &[u64],
+    scratch: &[u64],
+    moved: usize,
+) -> Result<(), Question>
     requires image { Image image.old (decode image.old) }
     requires roots_in_bounds { scratch_length (decode image.old).size (length roots.now / 3) ≤ length scratch.now }
     requires moved_in_bounds { moved ≤ length roots.now / 3 + 2 * (decode image.old).size.n }
-    ensures { Does (changes_step (moves_at (decode image.old).size (length roots.now / 3) moved scratch.now)) image.old (counting_answer result) image.new }
+    ensures { Does (changes_step (moves_at (decode image.old).size (length roots.now / 3) moved scratch.now)) image.old (done_answer result) image.new }
 {
     let at = image.len();
     let bases = cycle::scratch::bases_at(image, roots);
@@ -141,8 +146,8 @@ fn collect_and_change(image: &mut [u64], roots: &[u64], scratch: &mut [u64], amo
         return o;
     };
     match change_heap(image, roots, scratch, g.moved) {
-        Counting::Done => Outcome::At(g),
-        Counting::Refused(q) => Outcome::Refused(q),
+        Ok(()) => Outcome::At(g),
+        Err(q) => Outcome::Refused(q.number()),
     }
 }
 

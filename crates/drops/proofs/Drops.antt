@@ -9,6 +9,7 @@ use mir.Val.{Fits}
 use mir.Syntax.{w64}
 use lib.ListN.{length, get_or, take, drop, drop_of_length-le}
 use lib.Seq.{drop-cons}
+use Rattle.std.proofs.Common.{Result, Ok, Err}
 use Rattle.model.specs.Lists.{flat, only_if}
 use Rattle.model.specs.Res.{Res, ok, refuse, ◌>>=◌, each}
 use Rattle.model.specs.Reach.{mem}
@@ -19,9 +20,10 @@ use Rattle.model.specs.Elder.{keeps, count_dropped}
 use Rattle.model.specs.Calls.{cells_in}
 use Rattle.theorems.proofs.Cells.{whole_words, words-in}
 use Rattle.theorems.proofs.Lists.{and_parts}
-use Rattle.barrier.specs.declared.Counting.TheVariants.{Done, Refused}
-use Rattle.barrier.specs.declared.Counted.{Counted}
-use Rattle.barrier.specs.Counts.{barrier_of, counted, any_crossing}
+use Rattle.question.specs.Question.{number, answer}
+use Rattle.question.specs.declared.Question.{Question}
+use Rattle.barrier.specs.declared.WriteBarrier.{WriteBarrier}
+use Rattle.barrier.specs.Counts.{barrier_of, any_crossing}
 use Rattle.barrier.proofs.Steps.{steps-out}
 use Rattle.barrier.proofs.Turns.{quiet}
 use Rattle.trace.specs.Words.{pointer}
@@ -132,16 +134,16 @@ module _ {ps : List Ptr} {ls ws : List ℕ} {ss : List (List Cell)} {z₀ z : Ba
     pub left-stays : Counts ps b part ≡ false → Left ps ls ws ss z₀ (b + 1) (at + 3 * get_or ls b 0) z
     left-stays e = goes_on (slot-stays ps b part z left-whole e)
 
-    module _ (c : Counted) (d : Counts ps b part ≡ true) (e : counted c ≡ each (count_out 1) (cells_in part) z) where
-      counted-out : slot_out ps b (cells_in part) z ≡ counted c
+    module _ (r : Result WriteBarrier Question) (d : Counts ps b part ≡ true) (e : answer barrier_of r ≡ each (count_out 1) (cells_in part) z) where
+      counted-out : slot_out ps b (cells_in part) z ≡ answer barrier_of r
       counted-out = slot-goes ps b part z d ∙ sym e
 
-      pub left-turn : c.answer ≡ Done → Left ps ls ws ss z₀ (b + 1) (at + 3 * get_or ls b 0) (barrier_of c.barrier)
-      left-turn done = goes_on (counted-out ∙ rw done)
+      pub left-turn : (c : WriteBarrier) → r ≡ Ok c → Left ps ls ws ss z₀ (b + 1) (at + 3 * get_or ls b 0) (barrier_of c)
+      left-turn c done = goes_on (counted-out ∙ rw done)
 
-      pub left-refused : (q : ℕ) → c.answer ≡ Refused q → refuse q ≡ count_dropped ps 0 ss z₀
+      pub left-refused : (q : Question) → r ≡ Err q → refuse (number q) ≡ count_dropped ps 0 ss z₀
       left-refused q refused =
-          let no : slot_out ps b (cells_in part) z ≡ refuse q = counted-out ∙ rw refused in
+          let no : slot_out ps b (cells_in part) z ≡ refuse (number q) = counted-out ∙ rw refused in
           rw no at next
 
 pub ruleset laws = (left-begin, left_end, left-fits, left-fits-3, left-whole)

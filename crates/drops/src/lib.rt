@@ -4,11 +4,13 @@
 ghost use Rattle.std.specs.Prelude.{◌≡◌, true, ◌&&◌, not, ◌*◌, ◌≤◌, length};
 ghost use Rattle.model.specs.Records.{whole_cells};
 ghost use Rattle.model.specs.Elder.{keeps, count_dropped};
-ghost use Rattle.barrier.specs.Counts.{barrier_of, HandsBack, any_crossing};
+ghost use Rattle.question.specs.Question.{answer};
+ghost use Rattle.barrier.specs.Counts.{barrier_of, any_crossing};
 ghost use Rattle.trace.specs.Words.{members};
 ghost use Rattle.slots.specs.Slots.{Packed, slots_of};
 
-use barrier::{Counted, Counting, WriteBarrier, cells};
+use barrier::{WriteBarrier, cells};
+use question::Question;
 
 // Whether the slot at base b has cells to count out: one crosses, and (1, b, 0) is no member.
 fn is_counted(slot: &[u64], b: usize, list: &[u64], count: usize) -> bool
@@ -27,31 +29,21 @@ pub fn count_dropped(
     cells: &[u64],
     list: &[u64],
     count: usize,
-    barrier: WriteBarrier,
-) -> Counted
+    mut barrier: WriteBarrier,
+) -> Result<WriteBarrier, Question>
     requires packed { Packed lens.now cells.now (slots_of lens.now cells.now) }
     requires count_in_bounds { 3 * count ≤ length list.now }
-    ensures { HandsBack (count_dropped (members count list.now) 0 (slots_of lens.now cells.now) (barrier_of barrier)) (barrier_of barrier) result }
+    ensures { answer barrier_of result ≡ count_dropped (members count list.now) 0 (slots_of lens.now cells.now) (barrier_of barrier) }
 {
-    let mut bar = barrier;
     let mut at: usize = 0;
     let mut b = 0;
     while b < lens.len() {
         let end = at + 3 * lens[b] as usize;
         if is_counted(&cells[at..end], b, list, count) {
-            let c = cells::count_cells(&cells[at..end], 1, false, bar);
-            let a = c.answer;
-            let Counting::Done = a else {
-                return Counted { answer: a, barrier };
-            };
-            let next = c.barrier;
-            bar = next;
+            barrier = cells::count_cells(&cells[at..end], 1, false, barrier)?;
         }
         at = end;
         b += 1;
     }
-    Counted {
-        answer: Counting::Done,
-        barrier: bar,
-    }
+    Ok(barrier)
 }

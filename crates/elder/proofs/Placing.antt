@@ -5,6 +5,7 @@ use mathlib.Core.List.{List}
 use Prim.Native.Nat.{ℕ, zero, suc, ◌*◌, ◌/◌}
 use native.Mathlib.Omega.{arith}
 use lib.ListN.{length, set, replicate}
+use Rattle.std.proofs.Common.{Result, Ok, Err}
 use Rattle.model.specs.Res.{Res, ok, refuse, ◌>>=◌, each}
 use Rattle.model.specs.Records.{Cell, blank, whole_cells}
 use Rattle.model.specs.Barrier.{Barrier, count_in}
@@ -19,12 +20,12 @@ use Rattle.theorems.proofs.Cells.{whole_length}
 use Rattle.theorems.proofs.Does.{does-then, does-refused, does-same}
 use Rattle.theorems.proofs.Image.{image-decode}
 use Rattle.theorems.proofs.Res.{each_holds, holds_at}
-use Rattle.barrier.specs.Counts.{barrier_of, counting_answer, counted, any_crossing}
+use Rattle.barrier.specs.Counts.{barrier_of, any_crossing}
 use Rattle.barrier.proofs.Steps.{steps-in}
 use Rattle.barrier.proofs.Turns.{quiet}
-use Rattle.barrier.specs.declared.Counting.{Counting}
-use Rattle.barrier.specs.declared.Counting.TheVariants as counting
-use Rattle.barrier.specs.declared.Counted.{Counted}
+use Rattle.question.specs.Question.{number, answer, done_answer}
+use Rattle.question.specs.declared.Question.{Question}
+use Rattle.barrier.specs.declared.WriteBarrier.{WriteBarrier}
 use Rattle.trace.proofs.Places.{in-length}
 use Rattle.layout.specs.Elder.{with_slots, Turned, fit_answer, fit_for}
 use Rattle.layout.specs.declared.Fit.{Fit}
@@ -35,26 +36,24 @@ use Rattle.elder.specs.declared.Placed.TheVariants.{At, Refused}
 
 -- `count_in`
 
-module _ (cs : List Cell) {w : List ℕ} {b : Barrier} (r : Reads (λ h. h.old.bar) w b) (c : Counted) (e : counted c ≡ each (count_in 1) cs b) where
-  count-is : (h : Heap) → Image w h → count_step cs h ≡ (counted c >>= λ x. ok (tt, on_old (with_old_bar x) h))
+module _ (cs : List Cell) {w : List ℕ} {b : Barrier} (s : Reads (λ h. h.old.bar) w b) (r : Result WriteBarrier Question) (e : answer barrier_of r ≡ each (count_in 1) cs b) where
+  count-is : (h : Heap) → Image w h → count_step cs h ≡ (answer barrier_of r >>= λ x. ok (tt, on_old (with_old_bar x) h))
   unfolding count_step
-  count-is h i = rw (r.reads h i, e)
+  count-is h i = rw (s.reads h i, e)
 
-  module _ (a : c.answer ≡ counting.Done) where
-    pub count-fit : Image w (decode w) → FitBarrier (barrier_of c.barrier)
-    count-fit i = holds_at (each_holds (λ _ x. FitBarrier x) (count_in 1) (λ a l x f. in-fit 1 a x f) cs b (rw (r.reads _ i) at i.fit.old.bar)) (rw a at (sym e))
+  module _ (d : WriteBarrier) (a : r ≡ Ok d) where
+    pub count-fit : Image w (decode w) → FitBarrier (barrier_of d)
+    count-fit i = holds_at (each_holds (λ _ x. FitBarrier x) (count_in 1) (λ a l x f. in-fit 1 a x f) cs b (rw (s.reads _ i) at i.fit.old.bar)) (rw a at (sym e))
 
-    pub count-done : {v : List ℕ} → Turns (on_old (with_old_bar (barrier_of c.barrier))) w v → Does (count_step cs) w (counting_answer counting.Done) v
-    unfolding counting_answer
+    pub count-done : {v : List ℕ} → Turns (on_old (with_old_bar (barrier_of d))) w v → Does (count_step cs) w (ok tt) v
     count-done t = record { does = λ h i. rw (count-is h i, a) (refl, t.turns h i) }
 
-  pub count-refused : {v : List ℕ} (q : ℕ) → c.answer ≡ counting.Refused q → Does (count_step cs) w (counting_answer (counting.Refused q)) v
-  unfolding counting_answer
+  pub count-refused : {v : List ℕ} (q : Question) → r ≡ Err q → Does (count_step cs) w (refuse (number q)) v
   count-refused q a = record { does = λ h i. rw (count-is h i, a) refl }
 
 -- where none crosses, nothing changes
-pub count-quiet : (src : List ℕ) {w : List ℕ} {r : Bool} → whole_cells src ≡ true → r ≡ any_crossing 1 src → r ≡ false → Does (count_step (cells_in src)) w (counting_answer counting.Done) w
-unfolding count_step counting_answer with_old with_old_bar
+pub count-quiet : (src : List ℕ) {w : List ℕ} {r : Bool} → whole_cells src ≡ true → r ≡ any_crossing 1 src → r ≡ false → Does (count_step (cells_in src)) w (ok tt) w
+unfolding count_step with_old with_old_bar
 count-quiet src {r = r} whole e q = record { does = λ h i. rw (quiet (steps-in 1) src whole (sym e ∙ q) h.old.bar) (refl, i) }
 
 -- `place` and `place_new`: room for k cells, and these put
@@ -125,20 +124,20 @@ module _ (src : List ℕ) (g : whole_cells src ≡ true) (w : List ℕ) (r : Fit
   unfolding place_step place placed_answer
   place_none a = put-none (length cells) cells w r asked a
 
-  module _ {b : ℕ} (a : r ≡ fit.At b) {u : List ℕ} {c : Counting} (d : Does (count_step cells) w (counting_answer c) u) where
-    pub place-asks : c ≡ counting.Done → Image w (decode w) → Image u (decode u) × (((length src ≡ length src / 3 * 3) × (whole_cells src ≡ true)) × (ok b ≡ fit_for (length src / 3) (decode u)))
-    unfolding counting_answer
-    place-asks f i =
-        let (j, k) = still-room (length src / 3) cells w r e a i (rw f at d) in
-        (j, ((omega (arith, in-length src, whole_length src g), g), k))
+  module _ {b : ℕ} (a : r ≡ fit.At b) {u : List ℕ} (c : Result (Unit {0}) Question) (d : Does (count_step cells) w (done_answer c) u) where
+    module _ (x : Unit {0}) (f : c ≡ Ok x) where
+      pub place-asks : Image w (decode w) → Image u (decode u) × (((length src ≡ length src / 3 * 3) × (whole_cells src ≡ true)) × (ok b ≡ fit_for (length src / 3) (decode u)))
+      place-asks i =
+          let (j, k) = still-room (length src / 3) cells w r e a i (rw f at d) in
+          (j, ((omega (arith, in-length src, whole_length src g), g), k))
 
-    pub place-done : {v : List ℕ} → c ≡ counting.Done → Turned (λ ss. set ss b cells) u v → Does (place_step cells) w (placed_answer (At b)) v
-    unfolding place_step place placed_answer counting_answer
-    place-done f t = put-done (length cells) cells w r asked a (rw f at d) t
+      pub place-done : {v : List ℕ} → Turned (λ ss. set ss b cells) u v → Does (place_step cells) w (placed_answer (At b)) v
+      unfolding place_step place placed_answer
+      place-done t = put-done (length cells) cells w r asked a (rw f at d) t
 
-    pub place-refused : {v : List ℕ} {q : ℕ} → c ≡ counting.Refused q → Does (place_step cells) w (placed_answer (Refused q)) v
-    unfolding place_step place placed_answer counting_answer
-    place-refused f = put_refused (length cells) cells w r asked a (rw f at d)
+    pub place-refused : {v : List ℕ} (q : Question) → c ≡ Err q → Does (place_step cells) w (placed_answer (Refused (number q))) v
+    unfolding place_step place placed_answer
+    place-refused q f = put_refused (length cells) cells w r asked a (rw f at d)
 
 -- Uninitialized cells leave the barrier as it is
 blanks-counted : (n : ℕ) (b : Barrier) → each (count_in 1) (replicate n blank) b ≡ ok b

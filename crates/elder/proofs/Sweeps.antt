@@ -7,6 +7,7 @@ use native.Mathlib.Omega.{arith}
 use lib.Dec.{ltb}
 use lib.ListN.{length}
 use borrow.Author.Tests.{lt-ltb, le-ltb}
+use Rattle.std.proofs.Common.{Result, Ok, Err}
 use Rattle.model.specs.Res.{Res, ok, refuse, ◌>>=◌, ask}
 use Rattle.model.specs.Records.{Ptr, Cell}
 use Rattle.model.specs.Barrier.{Barrier, most}
@@ -20,9 +21,10 @@ use Rattle.theorems.proofs.Elder.{sweep-good}
 use Rattle.theorems.proofs.Image.{image-decode}
 use Rattle.theorems.proofs.Kept.{fit-good}
 use Rattle.theorems.proofs.Res.{holds_at}
-use Rattle.barrier.specs.Counts.{barrier_of, counted}
-use Rattle.barrier.specs.declared.Counting.TheVariants as counting
-use Rattle.barrier.specs.declared.Counted.{Counted}
+use Rattle.barrier.specs.Counts.{barrier_of}
+use Rattle.question.specs.Question.{number, answer}
+use Rattle.question.specs.declared.Question.{Question}
+use Rattle.barrier.specs.declared.WriteBarrier.{WriteBarrier}
 use Rattle.trace.specs.Words.{tab, members}
 use Rattle.trace.proofs.Entries.{length-members}
 use Rattle.layout.specs.Elder.{with_slots, Turned}
@@ -56,40 +58,40 @@ module _ (n : ℕ) (list : List ℕ) {w : List ℕ} {colls : ℕ} (r : Reads (λ
   unfolding collect_with swept_answer
   counter-full k = record { does = record { does = λ h i. rw (r.reads h i, le-ltb colls most (rw most-is k)) refl }; kept = λ _ _. refl }
 
-  module _ (small : colls < 4294967295) (c : Counted) (d : Reads (λ h. count_dropped ps 0 h.old.slots h.old.bar) w (counted c)) where
+  module _ (small : colls < 4294967295) (c : Result WriteBarrier Question) (d : Reads (λ h. count_dropped ps 0 h.old.slots h.old.bar) w (answer barrier_of c)) where
     below : colls < most
     below = rw most-is small
 
-    swept-is : (h : Heap) → Image w h → collect_with ps h ≡ (counted c >>= λ b. ok (n, on_old (swept ps b) h))
+    swept-is : (h : Heap) → Image w h → collect_with ps h ≡ (answer barrier_of c >>= λ b. ok (n, on_old (swept ps b) h))
     unfolding collect_with sweep swept
-    swept-is h i = rw (lt-ltb h.old.colls most (rw (r.reads h i) below), d.reads h i) (go (counted c))
+    swept-is h i = rw (lt-ltb h.old.colls most (rw (r.reads h i) below), d.reads h i) (go (answer barrier_of c))
       where
         left : Barrier → Elder
         left b = record { colls = suc h.old.colls; bar = b; slots = keep ps 0 h.old.slots }
 
-        answer : Elder → Res (ℕ × Heap)
-        answer e = ok (length ps, with_old e h)
+        told : Elder → Res (ℕ × Heap)
+        told e = ok (length ps, with_old e h)
 
-        go : (m : Res Barrier) → ((m >>= λ b. ok (left b)) >>= answer) ≡ (m >>= λ b. ok (n, with_old (left b) h))
+        go : (m : Res Barrier) → ((m >>= λ b. ok (left b)) >>= told) ≡ (m >>= λ b. ok (n, with_old (left b) h))
         go (ok b) = rw (length-members n list)
         go (refuse q) = refl
 
-    module _ (a : c.answer ≡ counting.Done) where
-      sweep-fit : Image w (decode w) → FitBarrier (barrier_of c.barrier)
+    module _ (x : WriteBarrier) (a : c ≡ Ok x) where
+      sweep-fit : Image w (decode w) → FitBarrier (barrier_of x)
       unfolding sweep
       sweep-fit i =
           let e : Elder = (decode w).old in
-          let is : sweep ps e ≡ ok (record { colls = suc e.colls; bar = barrier_of c.barrier; slots = keep ps 0 e.slots }) = rw (d.reads _ i, a) in
+          let is : sweep ps e ≡ ok (record { colls = suc e.colls; bar = barrier_of x; slots = keep ps 0 e.slots }) = rw (d.reads _ i, a) in
           (holds_at (sweep-good (decode w).size ps e (rw (r.reads _ i) below) (fit-good i.fit).old) is).fits.fit
 
-      pub sweep-asks : Image w (decode w) → FitBarrier (barrier_of c.barrier) × ((decode w).old.colls < most)
+      pub sweep-asks : Image w (decode w) → FitBarrier (barrier_of x) × ((decode w).old.colls < most)
       sweep-asks i = (sweep-fit i, rw (r.reads _ i) below)
 
-      pub with-done : {v : List ℕ} → Turns (on_old (swept ps (barrier_of c.barrier))) w v → Collects (collect_with ps) w (Done n) v
+      pub with-done : {v : List ℕ} → Turns (on_old (swept ps (barrier_of x))) w v → Collects (collect_with ps) w (Done n) v
       unfolding swept_answer
       with-done t = record { does = record { does = λ h i. rw (swept-is h i, a) (refl, t.turns h i) }; kept = λ q e. absurd (never e) }
 
-    pub with-refused : (q : ℕ) → c.answer ≡ counting.Refused q → Collects (collect_with ps) w (Refused q) w
+    pub with-refused : (q : Question) → c ≡ Err q → Collects (collect_with ps) w (Refused (number q)) w
     unfolding swept_answer
     with-refused q a = record { does = record { does = λ h i. rw (swept-is h i, a) refl }; kept = λ _ _. refl }
 

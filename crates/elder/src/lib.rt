@@ -11,14 +11,16 @@ ghost use Rattle.model.specs.Elder.{count_dropped};
 ghost use Rattle.model.specs.Calls.{cells_in};
 ghost use Rattle.theorems.specs.Fit.{FitBarrier, Image};
 ghost use Rattle.theorems.specs.Does.{Does};
-ghost use Rattle.barrier.specs.Counts.{barrier_of, counted, counting_answer};
+ghost use Rattle.question.specs.Question.{answer, done_answer};
+ghost use Rattle.barrier.specs.Counts.{barrier_of};
 ghost use Rattle.trace.specs.Words.{members};
 ghost use Rattle.fields.specs.Fields.{Reads, Turns, on_old};
 ghost use Rattle.elder.specs.Steps.{Listed, swept, swept_answer, placed_answer, Collects, collect_with, collect_step, count_step, place_step, blank_step};
 
-use barrier::{Counted, Counting, WriteBarrier, cells};
+use barrier::{WriteBarrier, cells};
 use image::counts::MOST;
 use layout::{Fit, places};
+use question::Question;
 
 // The visits, or the number of the question that got a no.
 #[derive(Clone, Copy)]
@@ -62,10 +64,10 @@ fn members(image: &[u64], roots: &[u64], masks: &[u64], list: &mut [u64]) -> usi
 }
 
 // The cells of what is no member counted out.
-fn count_dropped(image: &[u64], list: &[u64], count: usize) -> Counted
+fn count_dropped(image: &[u64], list: &[u64], count: usize) -> Result<WriteBarrier, Question>
     requires image { Image image.now (decode image.now) }
     requires count_in_bounds { 3 * count ≤ length list.now }
-    ensures { Reads (λ h. count_dropped (members count list.now) 0 h.old.slots h.old.bar) image.now (counted result) }
+    ensures { Reads (λ h. count_dropped (members count list.now) 0 h.old.slots h.old.bar) image.now (answer barrier_of result) }
 {
     let l = places::layout_of(image);
     let from = l.slots;
@@ -97,15 +99,12 @@ fn collect_with(image: &mut [u64], list: &[u64], count: usize) -> Swept
     if MOST <= fields::old_collections(image) {
         return Swept::Refused(11);
     }
-    let c = count_dropped(image, list, count);
-    let a = c.answer;
-    match a {
-        Counting::Done => {
-            let b = c.barrier;
+    match count_dropped(image, list, count) {
+        Ok(b) => {
             sweep(image, list, count, b);
             Swept::Done(count as u64)
         }
-        Counting::Refused(q) => Swept::Refused(q),
+        Err(q) => Swept::Refused(q.number()),
     }
 }
 
@@ -131,24 +130,17 @@ pub fn collect_all(image: &mut [u64]) -> Swept
 // ---- Placing
 
 // The cells counted in. The barrier is loaded only where one counts.
-fn count_in(image: &mut [u64], src: &[u64]) -> Counting
+fn count_in(image: &mut [u64], src: &[u64]) -> Result<(), Question>
     requires image { Image image.old (decode image.old) }
     requires src_value { whole_cells src.now ≡ true }
-    ensures { Does (count_step (cells_in src.now)) image.old (counting_answer result) image.new }
+    ensures { Does (count_step (cells_in src.now)) image.old (done_answer result) image.new }
 {
     if !cells::any_crosses(src, 1) {
-        return Counting::Done;
+        return Ok(());
     }
-    let c = cells::count_cells(src, 1, true, fields::old_barrier(image));
-    let a = c.answer;
-    match a {
-        Counting::Done => {
-            let b = c.barrier;
-            fields::put_old_barrier(image, b);
-            Counting::Done
-        }
-        Counting::Refused(q) => Counting::Refused(q),
-    }
+    let b = cells::count_cells(src, 1, true, fields::old_barrier(image))?;
+    fields::put_old_barrier(image, b);
+    Ok(())
 }
 
 // These cells at the new base.
@@ -162,11 +154,11 @@ pub fn place(image: &mut [u64], src: &[u64]) -> Placed
         return Placed::Refused(7);
     };
     match count_in(image, src) {
-        Counting::Done => {
+        Ok(()) => {
             layout::put_cells(image, b, src, len);
             Placed::At(b as u64)
         }
-        Counting::Refused(q) => Placed::Refused(q),
+        Err(q) => Placed::Refused(q.number()),
     }
 }
 

@@ -1,10 +1,11 @@
 -- A pointer changed in both generations, and many.
-use mathlib.Core.Path.{◌≡◌, refl, sym, ap, subst, ◌∙◌}
+use mathlib.Core.Path.{◌≡◌, refl, sym, subst, ◌∙◌}
 use mathlib.Core.List.{List, ◌∷◌, map}
 use Prim.Native.Nat.{ℕ, zero, suc, ◌+◌, ◌-◌, ◌≤◌, ◌<◌}
 use native.Mathlib.Nat.{sub-zero}
 use native.Mathlib.Omega.{arith}
 use lib.ListN.{length, take}
+use Rattle.std.proofs.Common.{Result, Ok, Err}
 use Rattle.model.specs.Lists.{keep_if, flat}
 use Rattle.model.specs.Res.{Res, ok, refuse, ◌>>=◌, each}
 use Rattle.model.specs.Records.{Ptr, ref}
@@ -20,10 +21,10 @@ use Rattle.theorems.proofs.Barrier.{in-fit, out-fit}
 use Rattle.theorems.proofs.Does.{answered as left-answered, does-then, does-refused, does-same}
 use Rattle.theorems.proofs.Image.{image-decode}
 use Rattle.theorems.proofs.Res.{bind, holds_at}
-use Rattle.barrier.specs.Counts.{barrier_of, answer_of, counted, counting_answer}
-use Rattle.barrier.specs.declared.Counting.{Counting}
-use Rattle.barrier.specs.declared.Counting.TheVariants.{Done, Refused}
-use Rattle.barrier.specs.declared.Counted.{Counted}
+use Rattle.question.specs.Question.{number, answer, done_answer}
+use Rattle.question.specs.declared.Question.{Question}
+use Rattle.barrier.specs.declared.WriteBarrier.{WriteBarrier}
+use Rattle.barrier.specs.Counts.{barrier_of}
 use Rattle.trace.specs.Words.{tab}
 use Rattle.trace.proofs.Entries.{tab-cons, tab-none}
 use Rattle.layout.specs.Elder.{with_slots, Turned}
@@ -52,28 +53,27 @@ module _ (own : ℕ) (m : Ptr × ℕ) where
     abbrev step : Heap → Res (Unit {0} × Heap)
     step h = times k (count_change own m) (bar h) >>= λ b. left (put b h)
 
-    pub count_none : {w : List ℕ} → ((h : Heap) → put (bar h) h ≡ h) → k ≡ 0 → Does step w (counting_answer Done) w
-    unfolding counting_answer times
+    pub count_none : {w : List ℕ} → ((h : Heap) → put (bar h) h ≡ h) → k ≡ 0 → Does step w (ok tt) w
+    unfolding times
     count_none same none = record { does = λ h i. rw (none, same h) (refl, i) }
 
-    module _ {w : List ℕ} {b : Barrier} (c : Counted) (s : Reads bar w b) (e : counted c ≡ times k (count_change own m) b) where
-      given : (h : Heap) → Image w h → counted c ≡ times k (count_change own m) (bar h)
+    module _ {w : List ℕ} {b : Barrier} (r : Result WriteBarrier Question) (s : Reads bar w b) (e : answer barrier_of r ≡ times k (count_change own m) b) where
+      given : (h : Heap) → Image w h → answer barrier_of r ≡ times k (count_change own m) (bar h)
       given h i = rw (s.reads h i) e
 
-      answered : (h : Heap) → Image w h → c.answer ≡ Done → times k (count_change own m) (bar h) ≡ ok (barrier_of c.barrier)
-      answered h i a = sym (given h i) ∙ ap (λ (x : Counting). answer_of x c.barrier) a
+      module _ (d : WriteBarrier) (done : r ≡ Ok d) where
+        answered : (h : Heap) → Image w h → times k (count_change own m) (bar h) ≡ ok (barrier_of d)
+        answered h i = sym (given h i) ∙ rw done
 
-      pub count-fit : Image w (decode w) → FitBarrier (bar (decode w)) → c.answer ≡ Done → FitBarrier (barrier_of c.barrier)
-      count-fit i g a = holds_at (times-fit k (bar (decode w)) g) (answered (decode w) i a)
+        pub count-fit : Image w (decode w) → FitBarrier (bar (decode w)) → FitBarrier (barrier_of d)
+        count-fit i g = holds_at (times-fit k (bar (decode w)) g) (answered (decode w) i)
 
-      pub count-done : {v : List ℕ} → c.answer ≡ Done → Turns (put (barrier_of c.barrier)) w v → Does step w (counting_answer Done) v
-      unfolding counting_answer
-      count-done a t = record { does = λ h i. rw (answered h i a) (refl, t.turns h i) }
+        pub count-done : {v : List ℕ} → Turns (put (barrier_of d)) w v → Does step w (ok tt) v
+        count-done t = record { does = λ h i. rw (answered h i) (refl, t.turns h i) }
 
-      pub count-refused : {v : List ℕ} (q : ℕ) → c.answer ≡ Refused q → Does step w (counting_answer (Refused q)) v
-      unfolding counting_answer
-      count-refused q a =
-          record { does = λ h i. let no : times k (count_change own m) (bar h) ≡ refuse q = sym (given h i) ∙ ap (λ (x : Counting). answer_of x c.barrier) a in rw no refl }
+      pub count-refused : {v : List ℕ} (q : Question) → r ≡ Err q → Does step w (refuse (number q)) v
+      count-refused q out =
+          record { does = λ h i. let no : times k (count_change own m) (bar h) ≡ refuse (number q) = sym (given h i) ∙ rw out in rw no refl }
 
 -- one pointer: its cells changed, then counted
 
@@ -120,19 +120,16 @@ change-is m h = go (swap_young m h.young)
     go (ok y) = inner y (swap_old m h.old)
     go (refuse q) = refl
 
-module _ (m : Ptr × ℕ) {w u v : List ℕ} {a : Counting} (d : Does (young_step m) w (counting_answer a) u) where
-  pub both-changed : {r : Res (Unit {0})} → a ≡ Done → Does (old_step m) u r v → Does (change_step m) w r v
-  unfolding counting_answer
-  both-changed e f = does-same (λ h i. change-is m h) (does-then (λ _. old_step m) (rw e at d) f)
+module _ (m : Ptr × ℕ) {w u v : List ℕ} (a : Result (Unit {0}) Question) (d : Does (young_step m) w (done_answer a) u) where
+  pub both-changed : {r : Res (Unit {0})} (x : Unit {0}) → a ≡ Ok x → Does (old_step m) u r v → Does (change_step m) w r v
+  both-changed x e f = does-same (λ h i. change-is m h) (does-then (λ _. old_step m) (rw e at d) f)
 
-  pub young-refused : (q : ℕ) → a ≡ Refused q → Does (change_step m) w (counting_answer (Refused q)) v
-  unfolding counting_answer
+  pub young-refused : (q : Question) → a ≡ Err q → Does (change_step m) w (refuse (number q)) v
   young-refused q e = does-same (λ h i. change-is m h) (does-refused (λ _. old_step m) (rw e at d))
 
 -- the image that an answered step leaves
-pub does-image : {f : Heap → Res (Unit {0} × Heap)} {w v : List ℕ} {a : Counting} → Image w (decode w) → Does f w (counting_answer a) v → a ≡ Done → Image v (decode v)
-unfolding counting_answer
-does-image i d e = (left-answered i (rw e at d)).4
+pub does-image : {f : Heap → Res (Unit {0} × Heap)} {w v : List ℕ} (a : Result (Unit {0}) Question) → Image w (decode w) → Does f w (done_answer a) v → (x : Unit {0}) → a ≡ Ok x → Image v (decode v)
+does-image a i d x e = (left-answered i (rw e at d)).4
 
 -- many: the first, then the rest
 
@@ -157,20 +154,18 @@ module _ {list bases : List ℕ} {count : ℕ} where
   changes-begin i = record { within = omega arith; same = refl; image = i; leads = λ d. rw (sub-zero count) at d }
 
   module _ {w₀ w : List ℕ} {i : ℕ} (l : ChangesLeft w₀ list bases count w i) where
-    pub changes-end : count ≤ i → Does (changes_step (moves_in count list bases)) w₀ (counting_answer Done) w
-    unfolding counting_answer changes_step with_both
+    pub changes-end : count ≤ i → Does (changes_step (moves_in count list bases)) w₀ (ok tt) w
+    unfolding changes_step with_both
     changes-end e = l.leads (rw (tab-none (move_at list bases) i count e) (record { does = λ h k. (refl, k) }))
 
-    module _ (more : i < count) {v : List ℕ} {a : Counting} (d : Does (change_step (move_at list bases i)) w (counting_answer a) v) where
-      pub changes-turn : length v ≡ length w → a ≡ Done → ChangesLeft w₀ list bases count v (i + 1)
-      unfolding counting_answer
-      changes-turn s e = record {
+    module _ (more : i < count) {v : List ℕ} (a : Result (Unit {0}) Question) (d : Does (change_step (move_at list bases i)) w (done_answer a) v) where
+      pub changes-turn : length v ≡ length w → (x : Unit {0}) → a ≡ Ok x → ChangesLeft w₀ list bases count v (i + 1)
+      changes-turn s x e = record {
         within = omega arith;
         same = s ∙ l.same;
-        image = does-image l.image d e;
+        image = does-image a l.image d x e;
         leads = λ f. l.leads (rw (tab-cons (move_at list bases) i count more) (does-same (λ h k. changes-is _ _ h) (does-then (λ _. changes_step _) (rw e at d) f)));
       }
 
-      pub changes-refused : (q : ℕ) → a ≡ Refused q → Does (changes_step (moves_in count list bases)) w₀ (counting_answer a) v
-      unfolding counting_answer
-      changes-refused q e = rw e (l.leads (rw (tab-cons (move_at list bases) i count more) (does-same (λ h k. changes-is _ _ h) (does-refused (λ _. changes_step _) (rw e at d)))))
+      pub changes-refused : (q : Question) → a ≡ Err q → Does (changes_step (moves_in count list bases)) w₀ (refuse (number q)) v
+      changes-refused q e = l.leads (rw (tab-cons (move_at list bases) i count more) (does-same (λ h k. changes-is _ _ h) (does-refused (λ _. changes_step _) (rw e at d))))

@@ -11,13 +11,13 @@ ghost use Rattle.model.specs.Calls.{cells_in};
 ghost use Rattle.theorems.specs.Fit.{Image};
 ghost use Rattle.theorems.specs.Does.{Does};
 ghost use Rattle.theorems.specs.Apart.{swap_roots};
-ghost use Rattle.barrier.specs.Counts.{counting_answer};
+ghost use Rattle.question.specs.Question.{done_answer};
 ghost use Rattle.changes.specs.Changes.{move_of};
 ghost use Rattle.fields.specs.Fields.{Turns, on_young};
 ghost use Rattle.pointers.specs.Steps.{swapped_young, count_young, count_old, young_step, old_step, change_step, changes_step, moves_in};
 
-use barrier::Counting;
 use layout::places;
+use question::Question;
 
 // ---- One pointer: (0, base, offset) becomes (1, new, 0)
 
@@ -35,90 +35,80 @@ fn swap_young(image: &mut [u64], base: u64, offset: u64, new: u64) -> usize
 }
 
 // So many such cells counted on the nursery's barrier. Without one the barrier, 256 words long, is not loaded.
-fn count_young(image: &mut [u64], k: usize, base: u64, offset: u64, new: u64) -> Counting
+fn count_young(
+    image: &mut [u64],
+    k: usize,
+    base: u64,
+    offset: u64,
+    new: u64,
+) -> Result<(), Question>
     requires { Image image.old (decode image.old) }
-    ensures { Does (count_young k (move_of base offset new)) image.old (counting_answer result) image.new }
+    ensures { Does (count_young k (move_of base offset new)) image.old (done_answer result) image.new }
 {
     if k == 0 {
-        return Counting::Done;
+        return Ok(());
     }
-    let c = changes::count_changes(k, 0, base, offset, new, fields::young_barrier(image));
-    let a = c.answer;
-    match a {
-        Counting::Done => {
-            let b = c.barrier;
-            fields::put_young_barrier(image, b);
-            Counting::Done
-        }
-        Counting::Refused(q) => Counting::Refused(q),
-    }
+    let b = changes::count_changes(k, 0, base, offset, new, fields::young_barrier(image))?;
+    fields::put_young_barrier(image, b);
+    Ok(())
 }
 
-fn change_young(image: &mut [u64], base: u64, offset: u64, new: u64) -> Counting
+fn change_young(image: &mut [u64], base: u64, offset: u64, new: u64) -> Result<(), Question>
     requires { Image image.old (decode image.old) }
-    ensures { Does (young_step (move_of base offset new)) image.old (counting_answer result) image.new }
+    ensures { Does (young_step (move_of base offset new)) image.old (done_answer result) image.new }
 {
     let k = swap_young(image, base, offset, new);
     count_young(image, k, base, offset, new)
 }
 
 // The same on the elder's barrier.
-fn count_old(image: &mut [u64], k: usize, base: u64, offset: u64, new: u64) -> Counting
+fn count_old(image: &mut [u64], k: usize, base: u64, offset: u64, new: u64) -> Result<(), Question>
     requires { Image image.old (decode image.old) }
-    ensures { Does (count_old k (move_of base offset new)) image.old (counting_answer result) image.new }
+    ensures { Does (count_old k (move_of base offset new)) image.old (done_answer result) image.new }
 {
     if k == 0 {
-        return Counting::Done;
+        return Ok(());
     }
-    let c = changes::count_changes(k, 1, base, offset, new, fields::old_barrier(image));
-    let a = c.answer;
-    match a {
-        Counting::Done => {
-            let b = c.barrier;
-            fields::put_old_barrier(image, b);
-            Counting::Done
-        }
-        Counting::Refused(q) => Counting::Refused(q),
-    }
+    let b = changes::count_changes(k, 1, base, offset, new, fields::old_barrier(image))?;
+    fields::put_old_barrier(image, b);
+    Ok(())
 }
 
-fn change_old(image: &mut [u64], base: u64, offset: u64, new: u64) -> Counting
+fn change_old(image: &mut [u64], base: u64, offset: u64, new: u64) -> Result<(), Question>
     requires { Image image.old (decode image.old) }
-    ensures { Does (old_step (move_of base offset new)) image.old (counting_answer result) image.new }
+    ensures { Does (old_step (move_of base offset new)) image.old (done_answer result) image.new }
 {
     let k = layout::swap_elder(image, 0, base, offset, new);
     count_old(image, k, base, offset, new)
 }
 
 // In both generations, the nursery first.
-pub fn change(image: &mut [u64], base: u64, offset: u64, new: u64) -> Counting
+pub fn change(image: &mut [u64], base: u64, offset: u64, new: u64) -> Result<(), Question>
     requires { Image image.old (decode image.old) }
-    ensures { Does (change_step (move_of base offset new)) image.old (counting_answer result) image.new }
+    ensures { Does (change_step (move_of base offset new)) image.old (done_answer result) image.new }
 {
-    match change_young(image, base, offset, new) {
-        Counting::Done => change_old(image, base, offset, new),
-        Counting::Refused(q) => Counting::Refused(q),
-    }
+    change_young(image, base, offset, new)?;
+    change_old(image, base, offset, new)
 }
 
 // ---- All of them: the first count entries of list, with the new base of each
 
 // In both generations, pointer by pointer; the first refusal ends it.
-pub fn change_all(image: &mut [u64], list: &[u64], bases: &[u64], count: usize) -> Counting
+pub fn change_all(
+    image: &mut [u64],
+    list: &[u64],
+    bases: &[u64],
+    count: usize,
+) -> Result<(), Question>
     requires image { Image image.old (decode image.old) }
     requires count_in_bounds { (3 * count ≤ length list.now) × (count ≤ length bases.now) }
-    ensures { Does (changes_step (moves_in count list.now bases.now)) image.old (counting_answer result) image.new }
+    ensures { Does (changes_step (moves_in count list.now bases.now)) image.old (done_answer result) image.new }
 {
-    let mut i = 0;
-    while i < count {
+    for i in 0..count {
         let at = 3 * i;
-        let c = change(image, list[at + 1], list[at + 2], bases[i]);
-        let Counting::Done = c else {
-            return c;
-        };
-        i += 1;
+        change(image, list[at + 1], list[at + 2], bases[i])?;
     }
-    Counting::Done
+    Ok(())
 }
 
 // In roots.
@@ -128,10 +118,8 @@ pub fn change_roots(roots: &mut [u64], list: &[u64], bases: &[u64], count: usize
     ensures { roots.new ≡ cell_words (swap_roots (moves_in count list.now bases.now) (cells_in roots.old)) }
 {
     let n = roots.len() / 3;
-    let mut i = 0;
-    while i < count {
+    for i in 0..count {
         let at = 3 * i;
         slots::swap_cells(roots, n, 0, list[at + 1], list[at + 2], bases[i]);
-        i += 1;
     }
 }

@@ -1,24 +1,17 @@
-use mathlib.Core.Path.{refl}
-use native.Mathlib.Omega.{arith}
-use Rattle.barrier.proofs.Handing.{hands-done, hands-refused}
+use mathlib.Core.Path.{◌∙◌}
+use Rattle.question.proofs.Passing.{passed_on}
 use Rattle.changes.proofs.Steps.{times_none, times-less, times-refused}
 use Rattle.changes.proofs.count_changes.Goals as goal
 
-pub loop-left-init : goal.loop-left-init
-loop-left-init c = refl
+pub returns-in_err-barrier : goal.returns-in_err-barrier
+returns-in_err-barrier c =
+    let t = c.before.before.before.before in
+    let e = times-refused _ _ _ _ _ t.loop.invariant t.loop-test.true c.count_change.result c.count_change.ensures _ c.in_err-barrier.was in
+    passed_on _ c.from_residual.result _ c.from_residual.ensures.1 ∙ e
 
-pub returns-in_default : goal.returns-in_default
-returns-in_default c =
-    let t = c.before.before in
-    let s = c.count_change-c in
-    let no = times-refused _ _ _ _ t.loop-left.invariant (omega arith) s.result s.ensures.counted c.in_default.field-0 c.in_default.is in
-    hands-refused _ c.in_default.is refl no
-
-pub loop-left-preserved : goal.loop-left-preserved
-loop-left-preserved c =
-    let t = c.before.before.before in
-    let s = c.count_change-c in
-    times-less _ _ _ _ t.loop-left.invariant (omega arith) s.result s.ensures.counted c.in-Done.is
+pub loop-preserved : goal.loop-preserved
+loop-preserved c =
+    times-less _ _ _ _ _ c.loop.invariant c.loop-test.true c.count_change.result c.count_change.ensures _ c.in_ok-barrier.was
 
 pub returns : goal.returns
-returns c = hands-done _ refl (times_none _ _ _ _ c.loop-left.invariant (omega arith))
+returns c = times_none _ _ _ _ _ c.loop.invariant c.loop-test.false

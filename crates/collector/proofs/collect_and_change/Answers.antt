@@ -28,8 +28,9 @@ returns-in_default c = worked-refused c.requires c.young_barrier.ensures c.of-m.
 pub change_heap-requires : goal.change_heap-requires
 change_heap-requires c = let all = (change-asked c.requires c.young_barrier.ensures c.of-m.ensures.0 c.collect_and_push_allocation-o.ensures _ c.in-At.is (search rules)) in record { image = all.0; roots_in_bounds = all.1.0; moved_in_bounds = all.1.1 }
 
-pub returns-in-Done : goal.returns-in-Done
-returns-in-Done c = worked-done c.requires c.young_barrier.ensures c.of-m.ensures.0 c.collect_and_push_allocation-o.ensures _ c.in-At.is _ c.change_heap.ensures c.in-Done.is
+pub returns-in-Ok : goal.returns-in-Ok
+returns-in-Ok c = worked-done c.requires c.young_barrier.ensures c.of-m.ensures.0 c.collect_and_push_allocation-o.ensures _ c.in-At.is _ c.change_heap.ensures _ c.in-Ok.is
 
-pub returns-in-Refused : goal.returns-in-Refused
-returns-in-Refused c = worked-uncounted c.requires c.young_barrier.ensures c.of-m.ensures.0 c.collect_and_push_allocation-o.ensures _ c.in-At.is _ c.change_heap.ensures _ c.in-Refused.is
+pub returns-in-Err : goal.returns-in-Err
+returns-in-Err c =
+    rw c.number.ensures (worked-uncounted c.requires c.young_barrier.ensures c.of-m.ensures.0 c.collect_and_push_allocation-o.ensures _ c.in-At.is _ c.change_heap.ensures _ c.in-Err.is)

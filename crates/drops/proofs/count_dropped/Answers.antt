@@ -1,10 +1,10 @@
 use borrow.Author.Rules.{rules}
-use mathlib.Core.Path.{refl, sym, ◌∙◌}
+use mathlib.Core.Path.{sym, ◌∙◌}
+use Rattle.question.proofs.Passing.{passed_on}
 use Rattle.barrier.specs.Counts.{step_of}
-use Rattle.barrier.proofs.Handing.{hands-done, hands-refused}
 use Rattle.drops.proofs.Drops.{laws, left-start, left-done, left-stays, left-turn, left-refused}
 use Rattle.drops.proofs.count_dropped.Goals as goal
-use Rattle.drops.proofs.count_dropped.Goals.{then-is_counted+in-Done, else-is_counted}
+use Rattle.drops.proofs.count_dropped.Goals.{then-is_counted+in_ok-barrier, else-is_counted}
 
 pub loop-b-init : goal.loop-b-init
 loop-b-init c = search (laws, rules)
@@ -36,26 +36,24 @@ offset_bounds-cells-at-then-is_counted c =
 pub slice_bounds-count_cells-end : goal.slice_bounds-count_cells-end
 slice_bounds-count_cells-end c = search (laws, rules)
 
-pub count_cells-c-requires : goal.count_cells-c-requires
-count_cells-c-requires c = search (laws, rules)
+pub count_cells-requires : goal.count_cells-requires
+count_cells-requires c = search (laws, rules)
 
-pub returns-in_default : goal.returns-in_default
+pub returns-in_err-barrier : goal.returns-in_err-barrier
 unfolding step_of
-returns-in_default c =
-    let s = c.count_cells-c in
-    let i = c.before.before.before in
-    let t = i.before.before.before.before in
-    let no = left-refused t.loop-b.invariant t.loop-b-test.true s.result (sym i.is_counted.ensures ∙ i.if-is_counted.true) s.ensures.counted c.in_default.field-0 c.in_default.is in
-    hands-refused _ c.in_default.is refl no
+returns-in_err-barrier c =
+    let t = c.before.before.before.before.before.before.before.before in
+    let e = left-refused t.loop-b.invariant t.loop-b-test.true c.count_cells.result (sym c.is_counted.ensures ∙ c.if-is_counted.true) c.count_cells.ensures _ c.in_err-barrier.was in
+    passed_on _ c.from_residual.result _ c.from_residual.ensures.1 ∙ e
 
 pub loop-b-preserved : goal.loop-b-preserved
 unfolding step_of
 loop-b-preserved c =
     let told = c.is_counted.ensures in
     elim c.if-is_counted.branch [
-      | then-is_counted+in-Done w ↦ rw w.bar-is (left-turn c.loop-b.invariant c.loop-b-test.true w.count_cells-c.result (sym told ∙ w.if-is_counted.true) w.count_cells-c.ensures.counted w.in-Done.is)
-      | else-is_counted w ↦ rw w.bar-is (left-stays c.loop-b.invariant c.loop-b-test.true (sym told ∙ w.if-is_counted.false))
+      | then-is_counted+in_ok-barrier w ↦ rw w.barrier-is (left-turn c.loop-b.invariant c.loop-b-test.true w.count_cells.result (sym told ∙ w.if-is_counted.true) w.count_cells.ensures _ w.in_ok-barrier.was)
+      | else-is_counted w ↦ rw w.barrier-is (left-stays c.loop-b.invariant c.loop-b-test.true (sym told ∙ w.if-is_counted.false))
     ]
 
 pub returns : goal.returns
-returns c = hands-done _ refl (left-done c.loop-b.invariant c.loop-b-test.false)
+returns c = left-done c.loop-b.invariant c.loop-b-test.false

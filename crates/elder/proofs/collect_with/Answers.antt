@@ -7,17 +7,17 @@ returns-then-old_collections-ge-MOST c = counter-full _ _ c.old_collections.ensu
 
 pub sweep-requires : goal.sweep-requires
 sweep-requires c =
-    let others = sweep-asks _ _ c.old_collections.ensures c.if-old_collections-ge-MOST.false c.count_dropped-c.result c.count_dropped-c.ensures c.in-Done.is c.requires.image in record {
+    let others = sweep-asks _ _ c.old_collections.ensures c.if-old_collections-ge-MOST.false c.count_dropped.result c.count_dropped.ensures _ c.in-Ok.is c.requires.image in record {
       image = c.requires.image;
       count_in_bounds = search rules;
       fit_barrier = others.0;
       image_bound = others.1;
     }
 
-pub returns-in-Done : goal.returns-in-Done
-returns-in-Done c =
-    with-done _ _ c.old_collections.ensures c.if-old_collections-ge-MOST.false c.count_dropped-c.result c.count_dropped-c.ensures c.in-Done.is c.sweep.ensures
+pub returns-in-Ok : goal.returns-in-Ok
+returns-in-Ok c =
+    with-done _ _ c.old_collections.ensures c.if-old_collections-ge-MOST.false c.count_dropped.result c.count_dropped.ensures _ c.in-Ok.is c.sweep.ensures
 
-pub returns-in-Refused : goal.returns-in-Refused
-returns-in-Refused c =
-    with-refused _ _ c.old_collections.ensures c.if-old_collections-ge-MOST.false c.count_dropped-c.result c.count_dropped-c.ensures _ c.in-Refused.is
+pub returns-in-Err : goal.returns-in-Err
+returns-in-Err c =
+    rw c.number.ensures (with-refused _ _ c.old_collections.ensures c.if-old_collections-ge-MOST.false c.count_dropped.result c.count_dropped.ensures _ c.in-Err.is)

@@ -14,4 +14,4 @@ count_dropped-requires c = record {
 
 pub returns : goal.returns
 returns c =
-    dropped-read c.layout_of-l.ensures c.args.count c.args.list.now c.old_barrier-b.ensures c.count_dropped.ensures.counted
+    dropped-read c.layout_of-l.ensures c.args.count c.args.list.now c.old_barrier-b.ensures c.count_dropped.ensures

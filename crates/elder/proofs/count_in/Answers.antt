@@ -1,4 +1,5 @@
 use Rattle.model.specs.Calls.{cells_in}
+use Rattle.question.proofs.Passing.{passed_on}
 use Rattle.barrier.specs.Counts.{step_of}
 use Rattle.elder.proofs.Placing.{count-quiet, count-fit, count-done, count-refused}
 use Rattle.elder.proofs.count_in.Goals as goal
@@ -11,15 +12,15 @@ pub put_old_barrier-requires : goal.put_old_barrier-requires
 unfolding step_of
 put_old_barrier-requires c = record {
   image = c.requires.image;
-  fit_barrier = count-fit (cells_in c.args.src.now) c.old_barrier.ensures c.count_cells-c.result c.count_cells-c.ensures.counted c.in-Done.is c.requires.image;
+  fit_barrier = count-fit (cells_in c.args.src.now) c.old_barrier.ensures c.count_cells.result c.count_cells.ensures _ c.in_ok-b.was c.requires.image;
 }
 
-pub returns-in-Done : goal.returns-in-Done
+pub returns-in_err-b : goal.returns-in_err-b
 unfolding step_of
-returns-in-Done c =
-    count-done _ c.old_barrier.ensures c.count_cells-c.result c.count_cells-c.ensures.counted c.in-Done.is c.put_old_barrier.ensures
+returns-in_err-b c =
+    rw (passed_on (λ u. u) c.from_residual.result _ c.from_residual.ensures.1)
+    (count-refused _ c.old_barrier.ensures c.count_cells.result c.count_cells.ensures _ c.in_err-b.was)
 
-pub returns-in-Refused : goal.returns-in-Refused
+pub returns : goal.returns
 unfolding step_of
-returns-in-Refused c =
-    count-refused _ c.old_barrier.ensures c.count_cells-c.result c.count_cells-c.ensures.counted _ c.in-Refused.is
+returns c = count-done _ c.old_barrier.ensures c.count_cells.result c.count_cells.ensures _ c.in_ok-b.was c.put_old_barrier.ensures

@@ -6,12 +6,12 @@ returns-in_default c =
     place_none c.args.src.now c.requires.src_value _ _ c.room_for.ensures c.in_default.is
 
 pub put_cells-requires : goal.put_cells-requires
-put_cells-requires c = let all = (place-asks c.args.src.now c.requires.src_value _ _ c.room_for.ensures c.in-At.is c.count_in.ensures c.in-Done.is c.requires.image) in record { image = all.0; src_len = all.1.0; b_value = all.1.1 }
+put_cells-requires c = let all = (place-asks c.args.src.now c.requires.src_value _ _ c.room_for.ensures c.in-At.is _ c.count_in.ensures _ c.in-Ok.is c.requires.image) in record { image = all.0; src_len = all.1.0; b_value = all.1.1 }
 
-pub returns-in-Done : goal.returns-in-Done
-returns-in-Done c =
-    place-done c.args.src.now c.requires.src_value _ _ c.room_for.ensures c.in-At.is c.count_in.ensures c.in-Done.is c.put_cells.ensures
+pub returns-in-Ok : goal.returns-in-Ok
+returns-in-Ok c =
+    place-done c.args.src.now c.requires.src_value _ _ c.room_for.ensures c.in-At.is _ c.count_in.ensures _ c.in-Ok.is c.put_cells.ensures
 
-pub returns-in-Refused : goal.returns-in-Refused
-returns-in-Refused c =
-    place-refused c.args.src.now c.requires.src_value _ _ c.room_for.ensures c.in-At.is c.count_in.ensures c.in-Refused.is
+pub returns-in-Err : goal.returns-in-Err
+returns-in-Err c =
+    rw c.number.ensures (place-refused c.args.src.now c.requires.src_value _ _ c.room_for.ensures c.in-At.is _ c.count_in.ensures _ c.in-Err.is)
