@@ -7,40 +7,12 @@ ghost use Rattle.std.proofs.Math.Seq.{paste};
 ghost use Rattle.model.specs.Lists.{sum};
 ghost use Rattle.words.specs.Words.{padded};
 
-// Moves the n words from src on left to dst, the first one first.
-fn move_left(w: &mut [u64], dst: usize, src: usize, n: usize)
-    requires { (dst ≤ src) × (src + n ≤ length w.old) }
-    ensures { w.new ≡ paste w.old dst (drop src w.old) n }
-{
-    let mut i = 0;
-    while i < n {
-        w[dst + i] = w[src + i];
-        i += 1;
-    }
-}
-
-// Moves the n words from src on right to dst, the last one first.
-fn move_right(w: &mut [u64], dst: usize, src: usize, n: usize)
-    requires { (src ≤ dst) × (dst + n ≤ length w.old) }
-    ensures { w.new ≡ paste w.old dst (drop src w.old) n }
-{
-    let mut i = n;
-    while 0 < i {
-        i -= 1;
-        w[dst + i] = w[src + i];
-    }
-}
-
 // Moves the n words from src on to dst; the two places may overlap.
 pub fn move_words(w: &mut [u64], dst: usize, src: usize, n: usize)
     requires { (dst + n ≤ length w.old) × (src + n ≤ length w.old) }
     ensures { w.new ≡ paste w.old dst (drop src w.old) n }
 {
-    if dst <= src {
-        move_left(w, dst, src, n);
-    } else {
-        move_right(w, dst, src, n);
-    }
+    w.copy_within(src..src + n, dst);
 }
 
 // Copies src into w from at on.
@@ -48,11 +20,7 @@ pub fn copy_words(w: &mut [u64], at: usize, src: &[u64])
     requires { at + length src.now ≤ length w.old }
     ensures { w.new ≡ paste w.old at src.now (length src.now) }
 {
-    let mut i = 0;
-    while i < src.len() {
-        w[at + i] = src[i];
-        i += 1;
-    }
+    w[at..at + src.len()].copy_from_slice(src);
 }
 
 // Makes the n words from at on 0.
@@ -60,11 +28,7 @@ pub fn zero_words(w: &mut [u64], at: usize, n: usize)
     requires { at + n ≤ length w.old }
     ensures { w.new ≡ paste w.old at (replicate n 0) n }
 {
-    let mut i = 0;
-    while i < n {
-        w[at + i] = 0;
-        i += 1;
-    }
+    w[at..at + n].fill(0);
 }
 
 // Makes every word from at on 0.
@@ -72,18 +36,7 @@ pub fn zero_from(w: &mut [u64], at: usize)
     requires { at ≤ length w.old }
     ensures { w.new ≡ padded (take at w.old) (length w.old) }
 {
-    let n = w.len() - at;
-    zero_words(w, at, n);
-}
-
-// By how much a is above b.
-fn above(a: usize, b: usize) -> usize
-    ensures { result ≡ a - b }
-{
-    if a < b {
-        return 0;
-    }
-    a - b
+    w[at..].fill(0);
 }
 
 // Makes place for new words at `at` in the stead of old ones. The first used words are in use, the rest is 0 before and after:
@@ -98,7 +51,7 @@ fn open_place(w: &mut [u64], at: usize, old: usize, used: usize, new: usize)
     let rest = used - behind;
     move_words(w, after, behind, rest);
     let end = after + rest;
-    zero_words(w, end, above(used, end));
+    zero_words(w, end, used.saturating_sub(end));
 }
 
 // Of the first used words the old ones from at on are replaced by src. The rest is 0.
@@ -126,11 +79,5 @@ pub fn sum_first(w: &[u64], n: usize) -> usize
     requires { (n ≤ length w.now) × (sum (take n w.now) < 2 ^ 64) }
     ensures { result ≡ sum (take n w.now) }
 {
-    let mut s: usize = 0;
-    let mut i = 0;
-    while i < n {
-        s += w[i] as usize;
-        i += 1;
-    }
-    s
+    w[..n].iter().sum::<u64>() as usize
 }

@@ -1,6 +1,6 @@
-use borrow.Author.Rules.{rules}
-use Rattle.words.proofs.Laws.{laws}
+use Rattle.std.proofs.Common.{rules}
+use Rattle.words.proofs.Laws.{zeros-filled}
 use Rattle.words.proofs.zero_from.Goals as goal
 
 pub returns : goal.returns
-returns c = search (laws, rules)
+returns c = search (zeros-filled, rules)
