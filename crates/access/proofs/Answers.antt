@@ -20,8 +20,8 @@ use Rattle.value.specs.declared.Value.{Value}
 use Rattle.value.specs.declared.Pointer.{Pointer}
 use Rattle.trace.specs.Words.{pointer}
 use Rattle.slots.specs.Slots.{answer, valid_old, ReadBy}
-use Rattle.slots.specs.declared.Old.{Old}
-use Rattle.slots.specs.declared.Old.TheVariants.{At, Nothing}
+use Rattle.std.specs.Prelude.{Option, Some, None}
+use Rattle.value.specs.declared.Words.{Words}
 use Rattle.access.specs.Access.{pointer_of, loaded_cell, loaded_outcome, place_answer, ValueOf, Loads, LoadsFrom}
 use Rattle.access.specs.declared.Loaded.{Loaded}
 use Rattle.access.specs.declared.Loaded.TheVariants as loaded
@@ -94,21 +94,21 @@ young-inside h p i e f = go (sum_fits p.base p.off) (leb 0x1_0000_0000_0000_0000
 
 -- heap 1
 
-pub read_at : (h : Heap) (b : ℕ) {o x : ℕ} {r : Old} → o ≡ x → ReadBy (read h (pointer 1 b o)) r → ReadBy (read h (pointer 1 b x)) r
+pub read_at : (h : Heap) (b : ℕ) {o x : ℕ} {r : Option Words} → o ≡ x → ReadBy (read h (pointer 1 b o)) r → ReadBy (read h (pointer 1 b x)) r
 read_at h b {r = r} e d = subst (λ (k : ℕ). ReadBy (read h (pointer 1 b k)) r) e d
 
-module _ {m : Res Cell} {r : Old} (d : ReadBy m r) where
-  pub old-none : r ≡ Nothing → Loads m (loaded.Refused 8)
+module _ {m : Res Cell} {r : Option Words} (d : ReadBy m r) where
+  pub old-none : r ≡ None → Loads m (loaded.Refused 8)
   unfolding answer
   old-none e = loads-refused 8 (sym d.is ∙ ap answer e)
 
-  pub old-valid : (a b o : ℕ) → r ≡ At a b o → valid_words a b o ≡ true
+  pub old-valid : (w : Words) → r ≡ Some w → valid_words w.tag w.payload w.offset ≡ true
   unfolding valid_old
-  old-valid a b o e = ap valid_old (sym e) ∙ d.valid
+  old-valid w e = ap valid_old (sym e) ∙ d.valid
 
-  pub old-loaded : (a b o : ℕ) (v : Value) → r ≡ At a b o → ValueOf (cell_of a b o) v → Loads m (loaded.Value v)
+  pub old-loaded : (w : Words) (v : Value) → r ≡ Some w → ValueOf (cell_of w.tag w.payload w.offset) v → Loads m (loaded.Value v)
   unfolding answer
-  old-loaded a b o v e s = loads-value s (sym d.is ∙ ap answer e)
+  old-loaded w v e s = loads-value s (sym d.is ∙ ap answer e)
 
 -- any other heap
 pub other-heap : (h : Heap) (p : Ptr) → 2 ≤ p.heap → Loads (read h p) (loaded.Refused 8)

@@ -22,7 +22,6 @@ ghost use Rattle.access.specs.Counting.{count_young, count_old, store_young, sto
 
 use image::Checked;
 use places::Place;
-use slots::Old;
 use value::{Pointer, Value, Words};
 
 // Refused has the number of the question that got a no.
@@ -72,14 +71,10 @@ fn read_old(image: &[u64], base: u64, offset: i64) -> Loaded
     ensures { Loads (read (decode image.now) (pointer 1 base (of_z w64 offset))) result }
 {
     let o = value::unsigned(offset);
-    let Old::At(tag, payload, spare) = layout::read_elder(image, base, o) else {
+    let Some(cell) = layout::read_elder(image, base, o) else {
         return Loaded::Refused(8);
     };
-    Loaded::Value(cell_value(Words {
-        tag,
-        payload,
-        offset: spare,
-    }))
+    Loaded::Value(cell_value(cell))
 }
 
 // Any other heap: 8.

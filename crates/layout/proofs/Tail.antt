@@ -21,7 +21,8 @@ use Rattle.words.specs.Words.{padded}
 use Rattle.words.proofs.Laws.{padded-length}
 use Rattle.slots.specs.Slots.{Packed, slots_of, slots_at, Elder, Changed, read_old, ReadBy}
 use Rattle.trace.specs.Words.{pointer}
-use Rattle.slots.specs.declared.Old.{Old}
+use Rattle.std.specs.Prelude.{Option}
+use Rattle.value.specs.declared.Words.{Words}
 use Rattle.slots.proofs.Counts.{packed-is, elder-is, slots_length}
 use Rattle.slots.proofs.Parts.{lent, returned, lent_is, lent_length, returned-is}
 use Rattle.slots.proofs.Changes.{joint-cells, joint-elder, joint-changed}
@@ -171,7 +172,7 @@ module _ {w : List ℕ} {h : Heap} (i : Image w h) where
     parts-formed = rw slots-of-is packed-at
 
     -- `read_elder`
-    pub read_is : (b o : ℕ) {r : Old} → ReadBy (read_old (slots_of (take (l.young - l.slots) (drop l.slots w)) (lent l.old w)) b o) r → ReadBy (read h (pointer 1 b o)) r
+    pub read_is : (b o : ℕ) {r : Option Words} → ReadBy (read_old (slots_of (take (l.young - l.slots) (drop l.slots w)) (lent l.old w)) b o) r → ReadBy (read h (pointer 1 b o)) r
     read_is b o q = rw (← read-old h b o) (rw slots-of-is at q)
 
 -- w became v, as the contracts say it

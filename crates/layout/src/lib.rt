@@ -17,8 +17,10 @@ ghost use Rattle.trace.specs.Words.{pointer, members};
 ghost use Rattle.slots.specs.Slots.{ReadBy, written};
 ghost use Rattle.layout.specs.Elder.{Turned, fit_answer, fit_for, fit_words};
 
-// The elder's cell at (base, offset).
-pub fn read_elder(image: &[u64], base: u64, offset: u64) -> slots::Old
+use value::Words;
+
+// The elder's cell at (base, offset), if there is one.
+pub fn read_elder(image: &[u64], base: u64, offset: u64) -> Option<Words>
     requires { Image image.now (decode image.now) }
     ensures { ReadBy (read (decode image.now) (pointer 1 base offset)) result }
 {

@@ -11,6 +11,7 @@ use lib.Dec.{ltb}
 use lib.ListN.{length, get_or, take, drop, replicate, length-map, length-drop, get_or-map, get_or-eq_default}
 use lib.Seq.{drop-cons, drop-length, take-length, length-take-le, drop_at}
 use borrow.Author.Tests.{lt-ltb, le-ltb}
+use Rattle.std.specs.Prelude.{Some, None}
 use Rattle.model.specs.Lists.{cons_if, flat, places, sum}
 use Rattle.model.specs.Res.{ok}
 use Rattle.model.specs.Records.{Cell, blank, cell_words}
@@ -19,9 +20,8 @@ use Rattle.theorems.proofs.Cells.{cell-back, valid-words, words-length}
 use Rattle.theorems.proofs.Regions.{lengths-sum, slots-back}
 use Rattle.words.specs.Words.{padded}
 use Rattle.words.proofs.Sums.{sum-within, sum-front}
-use Rattle.slots.specs.Slots.{Packed, slots_of, Elder, slots_at, read_old, answer, valid_old, ReadBy}
-use Rattle.slots.specs.declared.Old.{Old}
-use Rattle.slots.specs.declared.Old.TheVariants.{At, Nothing}
+use Rattle.slots.specs.Slots.{Packed, slots_of, Elder, slots_at, read_old, answer, valid_old, ReadBy, words_at}
+use Rattle.value.specs.declared.Words.{Words}
 use Rattle.slots.proofs.Flat.{use-split, sum-take, slot-cell, valid-at, kind_at, payload-at, offset_at}
 
 -- the sums
@@ -98,14 +98,14 @@ module _ {ls ws : List ℕ} {ss : List (List Cell)} (v : Packed ls ws ss) where
 
   -- `read_old`
   module _ (b o : ℕ) where
-    none : length (get_or ss b []) ≤ o → ReadBy (read_old ss b o) Nothing
+    none : length (get_or ss b []) ≤ o → ReadBy (read_old ss b o) None
     unfolding read_old answer valid_old
     none h = record { is = rw (le-ltb o (length (get_or ss b [])) h); valid = refl }
 
-    pub read_out : length ls ≤ b → ReadBy (read_old ss b o) Nothing
+    pub read_out : length ls ≤ b → ReadBy (read_old ss b o) None
     read_out h = none (omega (arith, packed-length b, get_or-eq_default ls 0 h))
 
-    pub read_past : get_or ls b 0 ≤ o → ReadBy (read_old ss b o) Nothing
+    pub read_past : get_or ls b 0 ≤ o → ReadBy (read_old ss b o) None
     read_past h = none (omega (arith, packed-length b))
 
     module _ (h : b < length ls) (k : o < get_or ls b 0) (f : ℕ) (e : f ≡ sum (take b ls)) where
@@ -118,7 +118,7 @@ module _ {ls ws : List ℕ} {ss : List (List Cell)} (v : Packed ls ws ss) where
       pub read-room : (f + o) * 3 + 2 < length ws
       read-room = omega (arith, read_below, v.fits)
 
-      pub read_cell : {r : Old} → r ≡ At (get_or ws (3 * (f + o)) 0) (get_or ws (3 * (f + o) + 1) 0) (get_or ws (3 * (f + o) + 2) 0) → ReadBy (read_old ss b o) r
+      pub read_cell : {r : Words} → r ≡ words_at ws (3 * (f + o)) → ReadBy (read_old ss b o) (Some r)
       unfolding read_old answer valid_old padded in_use
       read_cell g =
           let i : ℕ = in_use (take b ss) + o in

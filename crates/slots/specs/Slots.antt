@@ -1,5 +1,5 @@
 -- The elder's slots in words: what the contracts of `src/` cite.
-use Rattle.std.specs.Prelude.{◌≡◌, Bool, true, false, List, [], ◌++◌, map, ℕ, ◌+◌, ◌*◌, ◌≤◌, ltb, length, get_or, take, drop, set}
+use Rattle.std.specs.Prelude.{◌≡◌, Option, Some, None, Bool, true, false, List, [], ◌++◌, map, ℕ, ◌+◌, ◌*◌, ◌≤◌, ltb, length, get_or, take, drop, set}
 use Rattle.std.proofs.Math.Seq.{paste}
 use Rattle.model.specs.Lists.{flat, sum}
 use Rattle.model.specs.Res.{Res, ok, refuse, ◌>>=◌, ask}
@@ -7,8 +7,7 @@ use Rattle.model.specs.Records.{Cell, blank, cell_words, cell_of, cells_of, all_
 use Rattle.model.specs.Heap.{in_use}
 use Rattle.model.specs.Image.{cut}
 use Rattle.words.specs.Words.{padded}
-use Rattle.slots.specs.declared.Old.{Old}
-use Rattle.slots.specs.declared.Old.TheVariants.{At, Nothing}
+use Rattle.value.specs.declared.Words.{Words}
 
 -- the lengths and the cells' words hold the slots, packed in base order, the rest zero
 pub record Packed (ls ws : List ℕ) (slots : List (List Cell)) : Type 0 where
@@ -39,20 +38,24 @@ pub record Changed (s at : ℕ) (w v : List ℕ) (slots : List (List Cell)) : Ty
   pub elder : Elder s at v slots
   pub same : between s at v ≡ between s at w
 
--- `Old`: a cell, or question 8
+-- the three words from i on
+abbrev pub words_at : List ℕ → ℕ → Words
+words_at ws i = record { tag = get_or ws i 0; payload = get_or ws (i + 1) 0; offset = get_or ws (i + 2) 0 }
+
+-- a cell, or question 8
 
 unfoldable pub read_old : List (List Cell) → ℕ → ℕ → Res Cell
 read_old slots b o = ask 8 (ltb o (length (get_or slots b []))) >>= λ _. ok (get_or (get_or slots b []) o blank)
 
-unfoldable pub answer : Old → Res Cell
-answer (At k v o) = ok (cell_of k v o)
-answer Nothing = refuse 8
+unfoldable pub answer : Option Words → Res Cell
+answer (Some c) = ok (cell_of c.tag c.payload c.offset)
+answer None = refuse 8
 
-unfoldable pub valid_old : Old → Bool
-valid_old (At k v o) = valid_words k v o
-valid_old Nothing = true
+unfoldable pub valid_old : Option Words → Bool
+valid_old (Some c) = valid_words c.tag c.payload c.offset
+valid_old None = true
 
-pub record ReadBy (m : Res Cell) (r : Old) : Type 0 where
+pub record ReadBy (m : Res Cell) (r : Option Words) : Type 0 where
   pub is : answer r ≡ m
   pub valid : valid_old r ≡ true
 

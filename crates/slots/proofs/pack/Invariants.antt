@@ -1,4 +1,3 @@
-use Prim.Native.Nat.{◌-◌}
 use Rattle.trace.specs.Words.{members}
 use Rattle.slots.specs.Slots.{slots_at}
 use Rattle.slots.proofs.Packs.{Packing}
@@ -6,6 +5,3 @@ use Rattle.slots.proofs.pack.Given as goal
 
 abbrev pub invariant-loop-b : goal.invariant-loop-b
 invariant-loop-b l = Packing (members l.count l.list) (slots_at l.s l.at l.initial.w) l.s l.at l.initial.w l.w l.b l.ends.src l.ends.dst
-
-abbrev pub decreases-loop-b : goal.decreases-loop-b
-decreases-loop-b l = l.s - l.b

@@ -1,3 +1,4 @@
+use native.Mathlib.Omega.{arith}
 use borrow.Author.Rules.{rules}
 use Rattle.slots.proofs.Swaps.{swap-found, swap-missed, swap-done, swaps}
 use Rattle.slots.proofs.swap_cells.Goals as goal
@@ -9,20 +10,8 @@ loop-i-init c = search (swaps, rules)
 pub swap_at-requires : goal.swap_at-requires
 swap_at-requires c = search (swaps, rules)
 
-pub overflow_add-hits : goal.overflow_add-hits
-overflow_add-hits c = search (swaps, rules)
-
-pub overflow_add-i : goal.overflow_add-i
-overflow_add-i c = search (swaps, rules)
-
-pub loop-i-smaller : goal.loop-i-smaller
-loop-i-smaller c = search (swaps, rules)
-
 pub loop-i-preserved : goal.loop-i-preserved
 loop-i-preserved c = elim c.if-swap_at.branch [ then-swap_at w ↦ search (swap-found, rules) | else-swap_at w ↦ search (swap-missed, rules) ]
 
-pub shape_of-cells : goal.shape_of-cells
-shape_of-cells c = search (swaps, rules)
-
 pub returns : goal.returns
-returns c = let all = (swap-done c.loop-i.invariant c.loop-i-test.false) in record { cells_after = all.0; value = all.1 }
+returns c = let all = (swap-done c.loop-i.invariant (omega arith)) in record { cells_after = all.0; value = all.1 }
