@@ -39,8 +39,8 @@ pub not_new : (x : command.Command) → ((n t s c : ℕ) → x ≡ variants.New 
 not_new (variants.New n t s c) h e = h n t s c (λ i. variants.New n t s c)
 not_new (variants.Alloc r a) h e = false≢true e
 not_new (variants.Set r a b o) h e = false≢true e
-not_new (variants.Load r p d) h e = false≢true e
-not_new (variants.Store r p d) h e = false≢true e
+not_new (variants.Load a) h e = false≢true e
+not_new (variants.Store a) h e = false≢true e
 not_new variants.Report h e = false≢true e
 not_new (variants.Figure r) h e = false≢true e
 

@@ -304,27 +304,19 @@ fn act(image: &mut [u64], scratch: &mut [u64], registers: Registers, command: Co
             payload,
             offset,
         } => set_register(registers, register as usize, tag as u64, payload, offset),
-        Command::Load {
-            register,
-            pointer,
-            offset,
-        } => load_in(
+        Command::Load(a) => load_in(
             image,
             registers,
-            register as usize,
-            pointer as usize,
-            offset,
+            a.register as usize,
+            a.pointer as usize,
+            a.offset,
         ),
-        Command::Store {
-            register,
-            pointer,
-            offset,
-        } => store_in(
+        Command::Store(a) => store_in(
             image,
             registers,
-            register as usize,
-            pointer as usize,
-            offset,
+            a.register as usize,
+            a.pointer as usize,
+            a.offset,
         ),
         Command::Report => report_in(image, registers),
         Command::Figure { register } => take_figure(registers, register as usize),

@@ -8,15 +8,11 @@ use native.Mathlib.Omega.{arith}
 use lib.ListN.{length, drop}
 use lib.Seq.{drop-cons}
 use Rattle.model.specs.Lists.{flat}
-use Rattle.model.specs.Res.{ok}
+use Rattle.model.specs.Res.{ok, refuse}
 use Rattle.model.specs.Command.{Command}
 use Rattle.model.specs.Run.{State as ModelState, Line, no_line, step, stepped}
 use Rattle.model.specs.Listing.{line, lines_from}
 use Rattle.figure.specs.Written.{Wrote}
-use Rattle.reader.specs.declared.Command.{Command as Given}
-use Rattle.reader.specs.declared.Next.{Next}
-use Rattle.reader.specs.declared.Next.TheVariants.{Is, End, Malformed}
-use Rattle.reader.specs.Answer.{next_answer}
 use Rattle.command.specs.declared.answers.Answer.{Answer}
 use Rattle.command.specs.declared.State.{State}
 use Rattle.command.specs.Answers.{answer_line}
@@ -56,11 +52,9 @@ module _ {file buffer out out' : List ℕ} {r : Run} {used end : ℕ} (g : Going
         going = record { within = t.0.within; counted = omega (arith, g.counted, t.0.further); ready = p.ready };
       }
 
-  pub advance-malformed : (x : Next) → ((c : Given) (k : ℕ) → x ≡ Is c k → ⊥) → next_answer x ≡ stands_at file r.at → Wrote (line r.number (no_line 12)) out used out' end → Advances file buffer r out used buffer (record { at = length file; number = r.number + 1; state = r.state }) out' end
+  pub advance-malformed : {q : ℕ} → refuse q ≡ stands_at file r.at → Wrote (line r.number (no_line 12)) out used out' end → Advances file buffer r out used buffer (record { at = length file; number = r.number + 1; state = r.state }) out' end
   unfolding left_of
-  advance-malformed (Is c k) o e w = absurd (o c k (λ i. Is c k))
-  advance-malformed End o e w = absurd (stood file r.at h e)
-  advance-malformed Malformed o e w = record {
+  advance-malformed e w = record {
     text = line r.number (no_line 12);
     wrote = w;
     listed = rw (left-none file (r.number + 1) (state_in buffer r.state), left-malformed file r.at r.number (state_in buffer r.state) h (stood file r.at h e)) (append-nil (line r.number (no_line 12)));

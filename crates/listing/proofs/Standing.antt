@@ -14,7 +14,11 @@ use Rattle.model.specs.Res.{Res, ok, refuse}
 use Rattle.model.specs.Command.{Command, registers_of, parse, parse_up_to, parse_all}
 use Rattle.model.specs.Listing.{longest_file}
 use Rattle.theorems.proofs.Reading.{registers-below}
-use Rattle.reader.specs.Answer.{placed, next_at}
+use Rattle.std.proofs.Common.{Option as CodeOption, Some, None, unwrap_or, Result, Err}
+use Rattle.question.specs.declared.Question.{Question}
+use Rattle.question.specs.declared.Question.TheVariants.{Command as Malformed}
+use Rattle.reader.specs.declared.Command.{Command as Given}
+use Rattle.reader.specs.Answer.{next_answer, placed_answer, placed, next_at}
 use Rattle.reader.specs.Progress.{Passed}
 use Rattle.reader.proofs.Progress.{passed, left-command, left-malformed}
 use Rattle.listing.specs.Left.{too_long, by_length, stands_at, commands_from}
@@ -82,6 +86,10 @@ module _ (file : List ℕ) (at : ℕ) (h : at < length file) where
 
   pub stood : {x : Res (Option (Command × ℕ))} → x ≡ stands_at file at → Stands file at x
   stood e = rw e stands
+
+  pub never_none : (x : CodeOption (Result (Given × ℕ) Question)) → next_answer x ≡ stands_at file at → placed_answer (unwrap_or x (Err Malformed)) ≡ stands_at file at
+  never_none (Some x) e = e
+  never_none None e = absurd (stood e)
 
   pub registers-below-16 : {c : Command} {k : ℕ} → ok (some (c, k)) ≡ stands_at file at → all_at_most 15 (registers_of c) ≡ true
   registers-below-16 e = registers-below (drop at file) (stood e).0.parsed

@@ -9,7 +9,8 @@ ghost use Rattle.lines.specs.Longest.{longest_line};
 ghost use Rattle.listing.specs.Left.{stands_at, left_of, Going, Advances, Fills};
 
 use command::{Answer, State};
-use reader::Next;
+use question::Question;
+use reader::Command;
 use registers::Registers;
 
 // The most bytes of a file, and of a line.
@@ -48,16 +49,16 @@ pub fn begin() -> Run
 }
 
 // In a file that is too long nothing is a command.
-fn stands_at(file: &[u8], at: usize) -> Next
+fn stands_at(file: &[u8], at: usize) -> Option<Result<(Command, usize), Question>>
     ensures { next_answer result ≡ stands_at file.now at }
 {
     if file.len() <= FILE {
         return reader::read_at(file, at);
     }
     if at < file.len() {
-        return Next::Malformed;
+        return Some(Err(Question::Command));
     }
-    Next::End
+    None
 }
 
 // One command and its line.
@@ -78,8 +79,8 @@ fn advance(
     let number = run.number;
     let next = number + 1;
     let state = run.state;
-    match stands_at(file, run.at) {
-        Next::Is(command, behind) => {
+    match stands_at(file, run.at).unwrap_or(Err(Question::Command)) {
+        Ok((command, behind)) => {
             let p = command::perform(buffer, scratch, state, command);
             let answer = p.answer;
             let after = p.state;
@@ -93,7 +94,7 @@ fn advance(
                 used: end,
             }
         }
-        _ => {
+        Err(_) => {
             let end = lines::line(number, Answer::Refused(12), out, used);
             Filled {
                 run: Run {

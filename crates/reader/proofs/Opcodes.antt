@@ -1,13 +1,13 @@
 -- Bytes that are no command's, and the last of those that are.
 use mathlib.Core.Path.{◌≡◌, refl, ◌∙◌}
-use mathlib.Core.Bool.{Bool, true, false}
 use mathlib.Core.List.{List, [], ◌∷◌}
 use Prim.Native.Nat.{ℕ}
-use native.Mathlib.Omega.{arith}
-use lib.Dec.{eqb}
-use borrow.Author.Tests.{ne_eqb, eqb-true, eqb-false}
+use borrow.Author.Tests.{ne_eqb}
 use Rattle.model.specs.Res.{ok, refuse}
 use Rattle.model.specs.Command.{opcodes, operand_bytes}
+use Rattle.reader.specs.Answer.{byte_of, operand_count}
+use Rattle.reader.specs.declared.Opcode.{Opcode}
+use Rattle.reader.specs.declared.Opcode.TheVariants.{New, Alloc, Set, Load, Store, Report, Figure}
 
 pub same_ok : {m n : ℕ} → ok m ≡ ok n → n ≡ m
 same_ok e = cc
@@ -27,11 +27,16 @@ module _ (op : ℕ) (a : op ≡ 0x4E → ⊥) (b : op ≡ 0x41 → ⊥) (c : op 
   unknown g =
       another op _ _ a ∙ another op _ _ b ∙ another op _ _ c ∙ another op _ _ d ∙ another op _ _ e ∙ another op _ _ f ∙ another op _ _ g ∙ none_left op
 
-  -- a known byte that is none of the others is a figure's
-  pub last-known : {n : ℕ} → operand_bytes opcodes op ≡ ok n → (op ≡ 0x46) × (n ≡ 1)
-  unfolding opcodes operand_bytes
-  last-known {n} known = go (eqb op 0x46) refl
-    where
-      go : (t : Bool) → eqb op 0x46 ≡ t → (op ≡ 0x46) × (n ≡ 1)
-      go true h = let is = eqb-true op 0x46 h in (is, same_ok (rw is at known))
-      go false h = let refused = unknown (eqb-false op 0x46 h) in let z : ◌≡◌ {A = ℕ} 0 1 = cc in absurd (omega arith)
+-- a byte that is read has that command's operand bytes
+pub known_count : {b k : ℕ} (o : Opcode) → b ≡ byte_of o → k ≡ operand_count o → ok k ≡ operand_bytes opcodes b
+unfolding opcodes operand_bytes
+known_count o e f = rw (e, f) (go o)
+  where
+    go : (o : Opcode) → ok (operand_count o) ≡ operand_bytes opcodes (byte_of o)
+    go New = refl
+    go Alloc = refl
+    go Set = refl
+    go Load = refl
+    go Store = refl
+    go Report = refl
+    go Figure = refl

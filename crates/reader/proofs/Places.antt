@@ -29,7 +29,7 @@ module _ (file : List ℕ) (at : ℕ) (h : at < length file) where
   w-length : length w ≡ length file - (at + 1)
   w-length = omega (arith, length-drop (suc at) file)
 
-  pub stands-unknown : refuse 12 ≡ operand_bytes opcodes op → refuse 12 ≡ next_at file at
+  pub stands-unknown : {q : ℕ} → refuse q ≡ operand_bytes opcodes op → refuse q ≡ next_at file at
   unfolding next_at parse
   stands-unknown e = rw (drop-cons file at 0 h, ← e)
 

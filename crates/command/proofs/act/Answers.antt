@@ -1,3 +1,4 @@
+use Rattle.std.proofs.Common.{rules}
 use mathlib.Core.List.{[], ◌∷◌}
 use mir.Syntax.{w64}
 use mir.ValLaws.{to_z-of_z}
@@ -21,17 +22,19 @@ set_register-requires c =
 pub load_in-requires : goal.load_in-requires
 unfolding registers_of
 load_in-requires c =
-    let (first, rest) = first_below c.in-Load.register (c.in-Load.pointer ∷ []) (rw c.in-Load.is at c.requires.command_value) in record {
+    let a = c.in-Load.a in
+    let (first, rest) = first_below a.register (a.pointer ∷ []) (rw c.in-Load.is at c.requires.command_value) in record {
       held = c.requires.held.0;
-      register_bound = (first, (first_below c.in-Load.pointer [] rest).0, c.requires.held.1);
+      register_bound = (first, (first_below a.pointer [] rest).0, c.requires.held.1);
     }
 
 pub store_in-requires : goal.store_in-requires
 unfolding registers_of
 store_in-requires c =
-    let (first, rest) = first_below c.in-Store.register (c.in-Store.pointer ∷ []) (rw c.in-Store.is at c.requires.command_value) in record {
+    let a = c.in-Store.a in
+    let (first, rest) = first_below a.register (a.pointer ∷ []) (rw c.in-Store.is at c.requires.command_value) in record {
       held = c.requires.held.0;
-      register_bound = (first, (first_below c.in-Store.pointer [] rest).0, c.requires.held.1);
+      register_bound = (first, (first_below a.pointer [] rest).0, c.requires.held.1);
     }
 
 pub take_figure-requires : goal.take_figure-requires
@@ -52,11 +55,11 @@ returns-in-Set c = rw c.in-Set.is (c.set_register.ensures _ c.requires.held.0)
 
 pub returns-in-Load : goal.returns-in-Load
 returns-in-Load c =
-    rw c.in-Load.is (rw (to_z-of_z w64 c.in-Load.offset (record { sfits = c.in-Load.known_told-in-Load-1-own.given.1.1.0.1 })) at c.load_in.ensures)
+    rw c.in-Load.is (rw (to_z-of_z w64 c.in-Load.a.offset (search rules)) at c.load_in.ensures)
 
 pub returns-in-Store : goal.returns-in-Store
 returns-in-Store c =
-    rw c.in-Store.is (rw (to_z-of_z w64 c.in-Store.offset (record { sfits = c.in-Store.known_told-in-Store-1-own.given.1.1.0.1 })) at c.store_in.ensures)
+    rw c.in-Store.is (rw (to_z-of_z w64 c.in-Store.a.offset (search rules)) at c.store_in.ensures)
 
 pub returns-in-Report : goal.returns-in-Report
 returns-in-Report c = rw c.in-Report.is c.report_in.ensures

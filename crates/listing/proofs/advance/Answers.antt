@@ -1,19 +1,26 @@
+use mathlib.Core.Path.{◌≡◌}
 use borrow.Author.Rules.{rules}
-use Rattle.listing.proofs.Standing.{registers-below-16}
+use Rattle.reader.specs.Answer.{placed_answer}
+use Rattle.listing.specs.Left.{stands_at}
+use Rattle.listing.proofs.Standing.{never_none, registers-below-16}
 use Rattle.listing.proofs.Advancing.{advance-command, advance-malformed}
 use Rattle.listing.proofs.advance.Goals as goal
+use Rattle.listing.proofs.advance.Goals.{After-unwrap_or}
+
+stood_there : (c : After-unwrap_or) → placed_answer c.unwrap_or.result ≡ stands_at c.args.file.now c.args.run.at
+stood_there c = rw c.unwrap_or.ensures (never_none _ _ c.requires.at_in_bounds _ c.stands_at.ensures)
 
 pub perform-p-requires : goal.perform-p-requires
 perform-p-requires c = record {
   ready = c.requires.going.ready;
   program_words_in_bounds = (search rules, search rules);
-  command_value = (registers-below-16 _ _ c.requires.at_in_bounds (rw c.in-Is.is at c.stands_at.ensures));
+  command_value = registers-below-16 _ _ c.requires.at_in_bounds (rw c.in-Ok.is at (stood_there (goal.at.perform-p-requires c).After-unwrap_or));
 }
 
-pub returns-in-Is : goal.returns-in-Is
-returns-in-Is c =
-    advance-command c.requires.going c.requires.at_in_bounds (rw c.in-Is.is at c.stands_at.ensures) c.perform-p.ensures c.line-end.ensures
+pub returns-in-Ok : goal.returns-in-Ok
+returns-in-Ok c =
+    advance-command c.requires.going c.requires.at_in_bounds (rw c.in-Ok.is at (stood_there (goal.at.returns-in-Ok c).After-unwrap_or)) c.perform-p.ensures c.line-end.ensures
 
-pub returns-in_default : goal.returns-in_default
-returns-in_default c =
-    advance-malformed c.requires.going c.requires.at_in_bounds c.stands_at.result c.in_default.not-Is c.stands_at.ensures c.line-end-in_default.ensures
+pub returns-in-Err : goal.returns-in-Err
+returns-in-Err c =
+    advance-malformed c.requires.going c.requires.at_in_bounds (rw c.in-Err.is at (stood_there (goal.at.returns-in-Err c).After-unwrap_or)) c.line-end-in-Err.ensures
