@@ -16,6 +16,9 @@ use Rattle.model.specs.Heap.{Heap}
 use Rattle.model.specs.Image.{decode}
 use Rattle.model.specs.Collector.{young_at, read}
 use Rattle.model.specs.Calls.{opened, read_on, reads, call}
+use Rattle.std.specs.Prelude.{Result, Ok, Err}
+use Rattle.question.specs.Question.{number}
+use Rattle.question.specs.declared.Question.{Question}
 use Rattle.value.specs.declared.Value.{Value}
 use Rattle.value.specs.declared.Pointer.{Pointer}
 use Rattle.trace.specs.Words.{pointer}
@@ -25,8 +28,6 @@ use Rattle.value.specs.declared.Words.{Words}
 use Rattle.access.specs.Access.{pointer_of, loaded_cell, loaded_outcome, place_answer, ValueOf, Loads, LoadsFrom}
 use Rattle.access.specs.declared.Loaded.{Loaded}
 use Rattle.access.specs.declared.Loaded.TheVariants as loaded
-use Rattle.access.specs.declared.places.Place.{Place}
-use Rattle.access.specs.declared.places.Place.TheVariants as place
 
 -- the pointer, by its fields
 pub pointer_is : (p : Pointer) (k : ℕ) (x : ℤ) → p.heap ≡ k → x ≡ p.offset → pointer k p.base (of_z w64 x) ≡ pointer_of p
@@ -65,18 +66,18 @@ loads-unformed w p q e = record { outcome = outcome-is w p (loaded.Refused q) (s
 
 -- heap 0
 
-module _ (h : Heap) (b o : ℕ) {r : Place} (e : place_answer r ≡ young_at h (pointer 0 b o)) where
-  pub young-refused : (q : ℕ) → r ≡ place.Refused q → Loads (read h (pointer 0 b o)) (loaded.Refused q)
-  unfolding read place_answer
-  young-refused q f = let y : young_at h (pointer 0 b o) ≡ refuse q = sym e ∙ ap place_answer f in loads-refused q (rw y)
+module _ (h : Heap) (b o : ℕ) {r : Result ℕ Question} (e : place_answer r ≡ young_at h (pointer 0 b o)) where
+  pub young-refused : (q : Question) {n : ℕ} → r ≡ Err q → n ≡ number q → Loads (read h (pointer 0 b o)) (loaded.Refused n)
+  unfolding read
+  young-refused q f m = let y : young_at h (pointer 0 b o) ≡ refuse (number q) = sym e ∙ ap place_answer f in rw m (loads-refused (number q) (rw y))
 
-  pub young-loaded : (i : ℕ) (v : Value) → r ≡ place.At i → ValueOf (get_or h.young.cells i blank) v → Loads (read h (pointer 0 b o)) (loaded.Value v)
-  unfolding read place_answer
+  pub young-loaded : (i : ℕ) (v : Value) → r ≡ Ok i → ValueOf (get_or h.young.cells i blank) v → Loads (read h (pointer 0 b o)) (loaded.Value v)
+  unfolding read
   young-loaded i v f g = let y : young_at h (pointer 0 b o) ≡ ok i = sym e ∙ ap place_answer f in loads-value g (rw y)
 
 -- an index that is answered lies in the nursery
-pub young-inside : (h : Heap) (p : Ptr) (i : ℕ) {r : Place} → place_answer r ≡ young_at h p → r ≡ place.At i → i < h.size.n
-unfolding young_at place_answer
+pub young-inside : (h : Heap) (p : Ptr) (i : ℕ) {r : Result ℕ Question} → place_answer r ≡ young_at h p → r ≡ Ok i → i < h.size.n
+unfolding young_at
 young-inside h p i e f = go (sum_fits p.base p.off) (leb 0x1_0000_0000_0000_0000 s) (ltb s (0x1_0000_0000_0000_0000 + h.size.n)) refl refl (ap place_answer (sym f) ∙ e)
   where
     s : ℕ

@@ -1,10 +1,12 @@
 -- The pointer of an access and its answers, in the model.
-use Rattle.std.specs.Prelude.{◌≡◌, List, [], ◌∷◌, ℕ}
+use Rattle.std.specs.Prelude.{◌≡◌, List, [], ◌∷◌, ℕ, Result}
 use Rattle.std.specs.Int.{w64}
 use Rattle.std.proofs.Common.{of_z}
 use Rattle.model.specs.Res.{Res, ok, refuse}
 use Rattle.model.specs.Records.{Ptr, Cell, cell_words}
 use Rattle.model.specs.Calls.{Outcome, reads, call}
+use Rattle.question.specs.Question.{number_answer}
+use Rattle.question.specs.declared.Question.{Question}
 use Rattle.value.specs.declared.Pointer.{Pointer}
 use Rattle.value.specs.declared.Value.{Value}
 use Rattle.value.specs.Value.{value_cell, Whole, Ranged}
@@ -12,8 +14,6 @@ use Rattle.access.specs.declared.Loaded.{Loaded}
 use Rattle.access.specs.declared.Loaded.TheVariants as loaded
 use Rattle.access.specs.declared.Stored.{Stored}
 use Rattle.access.specs.declared.Stored.TheVariants as stored
-use Rattle.access.specs.declared.places.Place.{Place}
-use Rattle.access.specs.declared.places.Place.TheVariants as place
 
 abbrev pub pointer_of : Pointer → Ptr
 pointer_of p = record { heap = p.heap; base = p.base; off = of_z w64 p.offset }
@@ -30,9 +30,8 @@ unfoldable pub stored_outcome : Stored → List ℕ → Outcome
 stored_outcome stored.Done v = record { answer = ok []; image = v; roots = [] }
 stored_outcome (stored.Refused q) v = record { answer = refuse q; image = v; roots = [] }
 
-unfoldable pub place_answer : Place → Res ℕ
-place_answer (place.At i) = ok i
-place_answer (place.Refused q) = refuse q
+abbrev pub place_answer : Result ℕ Question → Res ℕ
+place_answer r = number_answer r
 
 -- the value of a cell
 pub record ValueOf (c : Cell) (v : Value) : Type 0 where

@@ -21,7 +21,6 @@ ghost use Rattle.access.specs.Access.{pointer_of, stored_outcome, ValueOf, Loads
 ghost use Rattle.access.specs.Counting.{count_young, count_old, store_young, store_old, Leaves};
 
 use image::Checked;
-use places::Place;
 use value::{Pointer, Value, Words};
 
 // Refused has the number of the question that got a no.
@@ -60,8 +59,8 @@ fn read_young(image: &[u64], base: u64, offset: i64) -> Loaded
 {
     let n = fields::size_n(image) as usize;
     match places::index(base, offset, n) {
-        Place::At(i) => Loaded::Value(young_value(image, i)),
-        Place::Refused(q) => Loaded::Refused(q),
+        Ok(i) => Loaded::Value(young_value(image, i)),
+        Err(q) => Loaded::Refused(q.number()),
     }
 }
 
@@ -143,8 +142,8 @@ fn write_young(image: &mut [u64], base: u64, offset: i64, cell: &[u64]) -> Store
 {
     let n = fields::size_n(image) as usize;
     match places::index(base, offset, n) {
-        Place::At(i) => store_young(image, i, cell),
-        Place::Refused(q) => Stored::Refused(q),
+        Ok(i) => store_young(image, i, cell),
+        Err(q) => Stored::Refused(q.number()),
     }
 }
 

@@ -245,7 +245,7 @@ fn answer_reported(r: Reported, out: &mut [u64; 11]) -> u64
 {
     match r {
         Reported::Taken(s) => {
-            *out = report::words(s);
+            *out = <[u64; 11]>::from(s);
             0
         }
         Reported::Refused(q) => q,

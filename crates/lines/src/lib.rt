@@ -92,7 +92,7 @@ fn report_text(s: Statistics, out: &mut [u8], at: usize) -> usize
     requires { at + longest_text ≤ length out.old }
     ensures { Wrote (line_text (answer_line (Report s))) out.old at out.new result }
 {
-    let n = report::words(s);
+    let n = <[u64; 11]>::from(s);
     let rest = word(&[b'r', b'e', b'p', b'o', b'r', b't'], out, at);
     each_spaced(&n, out, rest)
 }

@@ -1,8 +1,8 @@
 -- The numbers, as they are read from an image.
-use mathlib.Core.Path.{◌≡◌, sym, ap, ◌∙◌}
+use mathlib.Core.Path.{◌≡◌, refl, sym, ap, ◌∙◌}
 use mathlib.Core.Bool.{true}
 use mathlib.Core.List.{List, [], ◌∷◌, ◌++◌}
-use Prim.Native.Nat.{ℕ, ◌-◌, ◌*◌, ◌^◌, ◌≤◌, ◌<◌}
+use Prim.Native.Nat.{ℕ, zero, suc, ◌-◌, ◌*◌, ◌^◌, ◌≤◌, ◌<◌}
 use native.Mathlib.Omega.{arith}
 use lib.Dec.{leb}
 use lib.ListN.{length, take, drop}
@@ -22,7 +22,7 @@ use Rattle.layout.specs.Places.{Laid}
 use Rattle.layout.specs.declared.places.Layout.{Layout}
 use Rattle.layout.proofs.Tail.{lens-lent}
 use Rattle.image.proofs.Bounds.{bounded}
-use Rattle.fields.specs.Fields.{Reads}
+use Rattle.fields.specs.Fields.{Reads, bar_of}
 use Rattle.fields.proofs.Parts.{n-read, young-counts, old-counts, lengths}
 use Rattle.report.specs.Numbers.{young_numbers, old_numbers, numbers}
 use Rattle.report.specs.declared.Nursery.{Nursery}
@@ -42,18 +42,31 @@ counts-fit : (b : Barrier) → FitBarrier b → sum (counts b) < 2 ^ 64
 unfolding cache
 counts-fit b f = omega (arith, sum-small (counts b) f.bounded, f.size)
 
+-- a part of an image that is the counts of heap `own`'s barrier
+abbrev pub Lent : List ℕ → ℕ → List ℕ → Type 0
+Lent w own part = (h : Heap) → Image w h → part ≡ counts (bar_of own h)
+
 module _ {w : List ℕ} where
-  pub young-counts-fit : Image w (decode w) → sum (take 256 (drop young_counts_at w)) < 2 ^ 64
-  young-counts-fit i = rw (young-counts i) (counts-fit (decode w).young.bar i.fit.young.bar)
+  pub young-lent : (own : ℕ) {part : List ℕ} → own ≡ 0 → part ≡ take 256 (drop young_counts_at w) → Lent w own part
+  unfolding bar_of
+  young-lent zero z e h i = e ∙ young-counts i
+  young-lent (suc k) z e h i = absurd (omega arith)
 
-  pub old-counts-fit : Image w (decode w) → sum (take 256 (drop old_counts_at w)) < 2 ^ 64
-  old-counts-fit i = rw (old-counts i) (counts-fit (decode w).old.bar i.fit.old.bar)
+  pub old-lent : (own : ℕ) {part : List ℕ} → (own ≡ 0 → ⊥) → part ≡ take 256 (drop old_counts_at w) → Lent w own part
+  unfolding bar_of
+  old-lent zero n e h i = absurd (n refl)
+  old-lent (suc k) n e h i = e ∙ old-counts i
 
-  pub young-counts-sum : {r : ℕ} → r ≡ sum (take 256 (drop young_counts_at w)) → Reads (λ h. sum (counts h.young.bar)) w r
-  young-counts-sum e = record { reads = λ h i. sym (e ∙ ap sum (young-counts i)) }
+  bar-fit : (own : ℕ) → Image w (decode w) → FitBarrier (bar_of own (decode w))
+  unfolding bar_of
+  bar-fit zero i = i.fit.young.bar
+  bar-fit (suc k) i = i.fit.old.bar
 
-  pub old-counts-sum : {r : ℕ} → r ≡ sum (take 256 (drop old_counts_at w)) → Reads (λ h. sum (counts h.old.bar)) w r
-  old-counts-sum e = record { reads = λ h i. sym (e ∙ ap sum (old-counts i)) }
+  pub lent-fit : (own : ℕ) {part : List ℕ} → Image w (decode w) → Lent w own part → sum part < 2 ^ 64
+  lent-fit own i l = rw (l (decode w) i) (counts-fit (bar_of own (decode w)) (bar-fit own i))
+
+  pub lent-sum : (own : ℕ) {part : List ℕ} {r : ℕ} → Lent w own part → r ≡ sum part → Reads (λ h. sum (counts (bar_of own h))) w r
+  lent-sum own l e = record { reads = λ h i. sym (e ∙ ap sum (l h i)) }
 
   -- the nursery's lengths
   pub young-held : {n to r : ℕ} → Reads (λ h. h.size.n) w n → to ≡ slot_lengths_at n → r ≡ length (places 0 (take (to - lengths_at) (drop lengths_at w))) → Reads (λ h. length (places 0 h.young.lens)) w r

@@ -9,7 +9,7 @@ ghost use Rattle.model.specs.Image.{decode};
 ghost use Rattle.model.specs.Collector.{statistics, report};
 ghost use Rattle.model.specs.Calls.{reported, report_call};
 ghost use Rattle.theorems.specs.Fit.{Image};
-ghost use Rattle.fields.specs.Fields.{Reads};
+ghost use Rattle.fields.specs.Fields.{Reads, bar_of};
 ghost use Rattle.report.specs.Numbers.{young_numbers, old_numbers, numbers, report_outcome, question_of, record_of, record_answer, Fills};
 
 use elder::Swept;
@@ -18,7 +18,7 @@ use image::counts::MOST;
 use layout::places;
 
 // References are the sum of a barrier's counts, free what is left of the cells.
-#[derive(Clone, Copy)]
+#[derive(Clone, Copy, Default)]
 pub struct Nursery {
     pub collections: u64,
     pub allocations: u64,
@@ -28,7 +28,7 @@ pub struct Nursery {
     pub promotions: u64,
 }
 
-#[derive(Clone, Copy)]
+#[derive(Clone, Copy, Default)]
 pub struct Elder {
     pub collections: u64,
     pub allocations: u64,
@@ -36,7 +36,7 @@ pub struct Elder {
     pub references: u64,
 }
 
-#[derive(Clone, Copy)]
+#[derive(Clone, Copy, Default)]
 pub struct Statistics {
     pub nursery: Nursery,
     pub elder: Elder,
@@ -51,24 +51,26 @@ pub enum Reported {
 }
 
 // The numbers in their order.
-pub fn words(s: Statistics) -> [u64; 11]
-    ensures { result ≡ numbers s }
-{
-    let y = s.nursery;
-    let e = s.elder;
-    [
-        y.collections,
-        y.allocations,
-        y.cells,
-        y.references,
-        y.free,
-        y.promotions,
-        e.collections,
-        e.allocations,
-        e.cells,
-        e.references,
-        s.leak,
-    ]
+impl From<Statistics> for [u64; 11] {
+    ghost from_gives = { λ s words. words ≡ numbers s };
+
+    fn from(s: Statistics) -> [u64; 11] {
+        let y = s.nursery;
+        let e = s.elder;
+        [
+            y.collections,
+            y.allocations,
+            y.cells,
+            y.references,
+            y.free,
+            y.promotions,
+            e.collections,
+            e.allocations,
+            e.cells,
+            e.references,
+            s.leak,
+        ]
+    }
 }
 
 // ---- The numbers
@@ -81,19 +83,17 @@ fn young_allocations(image: &[u64]) -> u64
     slots::held(&image[image::layout::LENGTHS..end]) as u64
 }
 
-// An absent barrier has only zeros in the image.
-fn young_references(image: &[u64]) -> u64
+// The sum of the counts of heap `own`'s barrier: the nursery's for 0, else the elder's. An absent one has only zeros in the image.
+fn references(image: &[u64], own: u8) -> u64
     requires { Image image.now (decode image.now) }
-    ensures { Reads (λ h. sum (counts h.young.bar)) image.now result }
+    ensures { Reads (λ h. sum (counts (bar_of own h))) image.now result }
 {
-    slots::in_use(&image[image::layout::YOUNG_COUNTS..image::layout::OLD_COUNTS]) as u64
-}
-
-fn old_references(image: &[u64]) -> u64
-    requires { Image image.now (decode image.now) }
-    ensures { Reads (λ h. sum (counts h.old.bar)) image.now result }
-{
-    slots::in_use(&image[image::layout::OLD_COUNTS..image::layout::LENGTHS]) as u64
+    let counts = if own == 0 {
+        &image[image::layout::YOUNG_COUNTS..image::layout::OLD_COUNTS]
+    } else {
+        &image[image::layout::OLD_COUNTS..image::layout::LENGTHS]
+    };
+    slots::in_use(counts) as u64
 }
 
 fn young_numbers(image: &[u64]) -> Nursery
@@ -105,7 +105,7 @@ fn young_numbers(image: &[u64]) -> Nursery
     let free = n - cells;
     let collections = fields::young_collections(image);
     let allocations = young_allocations(image);
-    let references = young_references(image);
+    let references = references(image, 0);
     let promotions = fields::promotions(image);
     Nursery {
         collections,
@@ -127,7 +127,7 @@ fn old_numbers(image: &[u64]) -> Elder
     let collections = fields::old_collections(image);
     let allocations = slots::held(&image[from..end]) as u64;
     let cells = slots::in_use(&image[from..end]) as u64;
-    let references = old_references(image);
+    let references = references(image, 1);
     Elder {
         collections,
         allocations,
@@ -222,29 +222,6 @@ pub fn report_into_formed(image: &mut [u64], lent: &mut Statistics) -> u64
     f.question
 }
 
-// A record to lend: its numbers reach no answer.
-fn nothing() -> Statistics {
-    let nursery = Nursery {
-        collections: 0,
-        allocations: 0,
-        cells: 0,
-        references: 0,
-        free: 0,
-        promotions: 0,
-    };
-    let elder = Elder {
-        collections: 0,
-        allocations: 0,
-        cells: 0,
-        references: 0,
-    };
-    Statistics {
-        nursery,
-        elder,
-        leak: 0,
-    }
-}
-
 // The answer of a number and a record.
 fn answered(q: u64, s: Statistics) -> Reported
     ensures { (v : List ℕ) → report_outcome result v ≡ record { answer = record_answer q s; image = v; roots = [] } }
@@ -259,7 +236,7 @@ fn answered(q: u64, s: Statistics) -> Reported
 pub fn report_lent(image: &mut [u64]) -> Reported
     ensures { report_call image.old ≡ report_outcome result image.new }
 {
-    let mut s = nothing();
+    let mut s = Statistics::default();
     let q = report_into(image, &mut s);
     answered(q, s)
 }
@@ -269,7 +246,7 @@ pub fn report_lent_formed(image: &mut [u64]) -> Reported
     requires { Image image.old (decode image.old) }
     ensures { reported image.old (report (decode image.old)) ≡ report_outcome result image.new }
 {
-    let mut s = nothing();
+    let mut s = Statistics::default();
     let q = report_into_formed(image, &mut s);
     answered(q, s)
 }

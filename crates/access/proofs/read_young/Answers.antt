@@ -18,11 +18,11 @@ found c =
 pub young_value-requires : goal.young_value-requires
 young_value-requires c = record {
   image = search rules;
-  i_bound = young-inside _ _ _ (found (goal.at.young_value-requires c).After-index) c.in-At.is;
+  i_bound = young-inside _ _ _ (found (goal.at.young_value-requires c).After-index) c.in-Ok.is;
 }
 
-pub returns-in-At : goal.returns-in-At
-returns-in-At c = young-loaded _ _ _ (found (goal.at.returns-in-At c).After-index) _ _ c.in-At.is c.young_value.ensures
+pub returns-in-Ok : goal.returns-in-Ok
+returns-in-Ok c = young-loaded _ _ _ (found (goal.at.returns-in-Ok c).After-index) _ _ c.in-Ok.is c.young_value.ensures
 
-pub returns-in-Refused : goal.returns-in-Refused
-returns-in-Refused c = young-refused _ _ _ (found (goal.at.returns-in-Refused c).After-index) _ c.in-Refused.is
+pub returns-in-Err : goal.returns-in-Err
+returns-in-Err c = young-refused _ _ _ (found (goal.at.returns-in-Err c).After-index) _ c.in-Err.is c.number.ensures

@@ -18,16 +18,14 @@ found c =
 pub store_young-requires : goal.store_young-requires
 store_young-requires c = record {
   image = c.requires.image;
-  i_bound = young-inside _ _ _ (found (goal.at.store_young-requires c).After-index) c.in-At.is;
+  i_bound = young-inside _ _ _ (found (goal.at.store_young-requires c).After-index) c.in-Ok.is;
   cell_value = c.requires.cell_value;
 }
 
-pub returns-in-At : goal.returns-in-At
-unfolding place_answer
-returns-in-At c =
-    rw (young-written c.args.image.now c.args.base (of_z w64 c.args.offset) _ _ (sym (found (goal.at.returns-in-At c).After-index) ∙ ap place_answer c.in-At.is)) at c.store_young.ensures
+pub returns-in-Ok : goal.returns-in-Ok
+returns-in-Ok c =
+    rw (young-written c.args.image.now c.args.base (of_z w64 c.args.offset) _ _ (sym (found (goal.at.returns-in-Ok c).After-index) ∙ ap place_answer c.in-Ok.is)) at c.store_young.ensures
 
-pub returns-in-Refused : goal.returns-in-Refused
-unfolding place_answer
-returns-in-Refused c =
-    left-refused _ (young-nowhere c.args.image.now c.args.base (of_z w64 c.args.offset) _ _ (sym (found (goal.at.returns-in-Refused c).After-index) ∙ ap place_answer c.in-Refused.is)) refl
+pub returns-in-Err : goal.returns-in-Err
+returns-in-Err c =
+    rw c.number.ensures (left-refused _ (young-nowhere c.args.image.now c.args.base (of_z w64 c.args.offset) _ _ (sym (found (goal.at.returns-in-Err c).After-index) ∙ ap place_answer c.in-Err.is)) refl)

@@ -5,4 +5,4 @@ use Rattle.lines.proofs.report_text.Goals as goal
 pub returns : goal.returns
 unfolding line_text report_word
 returns c =
-    rw (← c.words-n.ensures) (wrote-both c.word-rest.ensures c.each_spaced.ensures)
+    rw (← c.from-n.ensures) (wrote-both c.word-rest.ensures c.each_spaced.ensures)

@@ -1,5 +1,6 @@
 use borrow.Author.Rules.{rules}
 use Rattle.layout.proofs.Tail.{image-says-sized}
+use Rattle.fields.specs.Fields.{bar_of}
 use Rattle.report.proofs.Taking.{used-fits, old-taken}
 use Rattle.report.proofs.old_numbers.Goals as goal
 
@@ -10,5 +11,6 @@ pub in_use-cells-requires : goal.in_use-cells-requires
 in_use-cells-requires c = used-fits c.layout_of-l.ensures c.requires
 
 pub returns : goal.returns
+unfolding bar_of
 returns c =
-    old-taken c.layout_of-l.ensures _ c.old_collections-collections.ensures c.held-allocations.ensures c.in_use-cells.ensures c.old_references-references.ensures
+    old-taken c.layout_of-l.ensures _ c.old_collections-collections.ensures c.held-allocations.ensures c.in_use-cells.ensures c.references-references.ensures

@@ -1,42 +1,48 @@
-use native.Mathlib.Omega.{arith}
-use mathlib.Core.Path.{◌≡◌, ap, ◌∙◌}
-use Prim.Native.Nat.{◌-◌}
+use mathlib.Core.Path.{◌≡◌, sym, ◌∙◌}
+use Prim.Native.Nat.{ℕ}
+use lib.IntN.{ℤ, pos, nat_abs, ◌+ℤ◌}
 use mir.Syntax.{w64}
-use mir.Val.{of_z}
-use mir.ValLaws.{to_z-of_z}
-use Rattle.model.specs.Records.{Ptr, biased}
-use Rattle.trace.specs.Words.{pointer}
-use Rattle.access.specs.Access.{place_answer}
-use Rattle.access.proofs.Sums.{under, over, before, beyond, inside}
+use mir.Val.{SFits, of_z, to_z}
+use Rattle.std.specs.Int.{FitsUnsignedBits}
+use Rattle.std.proofs.lemmas.Int.{of_z-to_z, to_z-of_z}
+use Rattle.std.proofs.Math.Facts.{Fits-of_z}
+use Rattle.access.proofs.Sums.{no-sum, before, beyond, inside, sized}
 use Rattle.access.proofs.places.index.Goals as goal
-use Rattle.access.proofs.places.index.Goals.{After-moved_up-o, Start}
+use Rattle.access.proofs.places.index.Goals.{After-checked_add, In-Some}
 
-abbrev to : Start → Ptr
-to s = pointer 0 s.args.base (of_z w64 s.args.offset)
+abbrev sum : ℕ → ℤ → ℤ
+sum b d = to_z w64 b +ℤ to_z w64 (of_z w64 d)
 
-base-up : (c : After-moved_up-o) → c.moved_up-b.result ≡ biased c.args.base
-base-up c = c.moved_up-b.ensures
+-- the words that were read as i64, as the machine reads them back
+again : (c : After-checked_add) → to_z w64 (of_z w64 c.cast_signed.result) +ℤ to_z w64 (of_z w64 c.args.offset) ≡ sum c.args.base c.args.offset
+again c = rw (c.cast_signed.ensures, of_z-to_z w64 c.args.base c.ranges.base.fits)
 
-offset_up : (c : After-moved_up-o) → c.moved_up-o.result ≡ biased (of_z w64 c.args.offset)
-offset_up c =
-    c.moved_up-o.ensures ∙ ap biased (c.unsigned.ensures ∙ ap (of_z w64) (to_z-of_z w64 c.args.offset c.ranges.offset))
+pub returns-in_default : goal.returns-in_default
+returns-in_default c h e =
+    no-sum h c.args.base (of_z w64 c.args.offset) c.ranges.base.fits (Fits-of_z c.ranges.offset).fits (rw (again (goal.at.returns-in_default c).After-checked_add) at c.in_default.ensures)
 
-pub returns-then-b-o-lt-HALF : goal.returns-then-b-o-lt-HALF
-unfolding place_answer
-returns-then-b-o-lt-HALF c h e = under h (to (goal.at.returns-then-b-o-lt-HALF c).Start) (base-up (goal.at.returns-then-b-o-lt-HALF c).After-moved_up-o) (offset_up (goal.at.returns-then-b-o-lt-HALF c).After-moved_up-o) (omega arith)
+-- the sum, within i64
+summed : (c : In-Some) → SFits w64 (sum c.args.base c.args.offset) × (c.in-Some.sum ≡ sum c.args.base c.args.offset)
+summed c = rw (again c.before) at c.in-Some.ensures
 
-pub returns-then-b-room : goal.returns-then-b-room
-unfolding place_answer
-returns-then-b-room c h e = before h (to (goal.at.returns-then-b-room c).Start) (base-up (goal.at.returns-then-b-room c).After-moved_up-o) (offset_up (goal.at.returns-then-b-room c).After-moved_up-o) (omega arith) (omega arith) (omega arith)
+same : (c : In-Some) → to_z w64 (of_z w64 c.in-Some.sum) ≡ sum c.args.base c.args.offset
+same c = let s = summed c in rw s.1 (to_z-of_z w64 (sum c.args.base c.args.offset) s.0)
 
-pub returns-then-i-ge-HALF : goal.returns-then-i-ge-HALF
-unfolding place_answer
-returns-then-i-ge-HALF c h e = over h (to (goal.at.returns-then-i-ge-HALF c).Start) (base-up (goal.at.returns-then-i-ge-HALF c).After-moved_up-o) (offset_up (goal.at.returns-then-i-ge-HALF c).After-moved_up-o) (omega arith)
+pub returns-in_default-try_from-2 : goal.returns-in_default-try_from-2
+returns-in_default-try_from-2 c h e =
+    let some = (goal.at.returns-in_default-try_from-2 c).In-Some in
+    before h c.args.base (of_z w64 c.args.offset) c.ranges.base.fits (Fits-of_z c.ranges.offset).fits _ (sym (same some)) (summed some).0 c.in_default-try_from.ensures
 
-pub returns-then-at-n : goal.returns-then-at-n
-unfolding place_answer
-returns-then-at-n c h e = inside h (to (goal.at.returns-then-at-n c).Start) (base-up (goal.at.returns-then-at-n c).After-moved_up-o) (offset_up (goal.at.returns-then-at-n c).After-moved_up-o) (omega arith) (omega arith) (c.moved_up-b.result - (0xFFFF_FFFF_FFFF_FFFF - c.moved_up-o.result) - 1) c.args.n (omega arith) e (omega arith)
+-- an index
+found : (c : In-Some) (i : ℕ) → FitsUnsignedBits 64 (to_z w64 (of_z w64 c.in-Some.sum)) × (i ≡ nat_abs (to_z w64 (of_z w64 c.in-Some.sum))) → sum c.args.base c.args.offset ≡ pos i
+found c i (fits, is) = sym (same c) ∙ sized _ _ fits (sym is)
 
-pub returns : goal.returns
-unfolding place_answer
-returns c h e = beyond h (to (goal.at.returns c).Start) (base-up (goal.at.returns c).After-moved_up-o) (offset_up (goal.at.returns c).After-moved_up-o) (omega arith) (omega arith) (c.moved_up-b.result - (0xFFFF_FFFF_FFFF_FFFF - c.moved_up-o.result) - 1) c.args.n (omega arith) e (omega arith)
+pub returns-in-Ok : goal.returns-in-Ok
+returns-in-Ok c h e =
+    let some = (goal.at.returns-in-Ok c).In-Some in
+    inside h c.args.base (of_z w64 c.args.offset) c.ranges.base.fits (Fits-of_z c.ranges.offset).fits c.in-Ok.at c.args.n (found some c.in-Ok.at c.in-Ok.ensures) (summed some).0 e c.if-at-n.true
+
+pub returns-in_default-try_from : goal.returns-in_default-try_from
+returns-in_default-try_from c h e =
+    let some = (goal.at.returns-in_default-try_from c).In-Some in
+    beyond h c.args.base (of_z w64 c.args.offset) c.ranges.base.fits (Fits-of_z c.ranges.offset).fits c.in-Ok.at c.args.n (found some c.in-Ok.at c.in-Ok.ensures) (summed some).0 e c.if-at-n.false

@@ -1,6 +1,6 @@
 use mathlib.Core.Path.{refl}
 use Rattle.report.specs.Numbers.{numbers}
-use Rattle.report.proofs.words.Goals as goal
+use Rattle.report.proofs.ArrayU6411FromStatistics.from.Goals as goal
 
 pub returns : goal.returns
 unfolding numbers
