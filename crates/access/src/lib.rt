@@ -20,7 +20,6 @@ ghost use Rattle.fields.specs.Fields.{cell_in};
 ghost use Rattle.access.specs.Access.{pointer_of, stored_outcome, ValueOf, Loads, LoadsFrom};
 ghost use Rattle.access.specs.Counting.{count_young, count_old, store_young, store_old, Leaves};
 
-use image::Checked;
 use value::{Pointer, Value, Words};
 
 // Refused has the number of the question that got a no.
@@ -93,8 +92,8 @@ pub fn read(image: &[u64], p: Pointer) -> Loaded
     ensures { LoadsFrom image.now (pointer_of p) result }
 {
     match image::check(image) {
-        Checked::Formed => read_formed(image, p),
-        Checked::Refused(q) => Loaded::Refused(q),
+        Ok(()) => read_formed(image, p),
+        Err(q) => Loaded::Refused(q.number()),
     }
 }
 
@@ -205,7 +204,7 @@ pub fn write(image: &mut [u64], p: Pointer, cell: &[u64]) -> Stored
     ensures { call (writes (pointer_of p) cell.now) image.old ≡ stored_outcome result image.new }
 {
     match image::check(image) {
-        Checked::Formed => write_formed(image, p, cell),
-        Checked::Refused(q) => Stored::Refused(q),
+        Ok(()) => write_formed(image, p, cell),
+        Err(q) => Stored::Refused(q.number()),
     }
 }

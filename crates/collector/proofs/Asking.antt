@@ -2,6 +2,7 @@
 use mathlib.Core.Path.{◌≡◌, refl, sym, ap, ◌∙◌}
 use mathlib.Core.Bool.{true, false, ◌&&◌}
 use mathlib.Core.List.{List, [], ◌∷◌}
+use Rattle.std.specs.Prelude.{Result, Ok, Err}
 use Prim.Native.Nat.{ℕ, ◌+◌, ◌-◌, ◌*◌, ◌/◌, ◌^◌, ◌≤◌, ◌<◌}
 use native.Mathlib.Omega.{arith}
 use lib.Dec.{T, ltb}
@@ -24,10 +25,10 @@ use Rattle.theorems.specs.Fit.{Image}
 use Rattle.theorems.specs.Does.{with_young}
 use Rattle.theorems.proofs.Cells.{whole_back}
 use Rattle.theorems.proofs.Lists.{and_parts}
-use Rattle.image.specs.Answers.{checked_answer, image_asked}
+use Rattle.question.specs.Question.{number, done_answer}
+use Rattle.question.specs.declared.Question.{Question}
+use Rattle.image.specs.Answers.{image_asked}
 use Rattle.image.specs.Places.{image_end}
-use Rattle.image.specs.declared.Checked.{Checked}
-use Rattle.image.specs.declared.Checked.TheVariants as checked
 use Rattle.image.proofs.Bounds.{bounded, scratch-end}
 use Rattle.image.proofs.Opened.{opened-by}
 use Rattle.fields.specs.Fields.{Reads, Turns, on_young}
@@ -36,14 +37,14 @@ use Rattle.collector.specs.declared.Allocated.TheVariants.{At, Refused}
 
 -- 1 and 2
 
-module _ (w : List ℕ) {r : Checked} (e : checked_answer r ≡ image_asked w) where
+module _ (w : List ℕ) {r : Result (Unit {0}) Question} (e : done_answer r ≡ image_asked w) where
   module _ (roots : List ℕ) (scratch a : ℕ) where
-    pub formed-call : {b : ℕ} → b ≡ a → r ≡ checked.Formed → call (allocs roots scratch a) w ≡ allocated w roots (alloc_on (decode w) roots scratch b)
-    unfolding call checked_answer
+    pub formed-call : {b : ℕ} → b ≡ a → r ≡ Ok tt → call (allocs roots scratch a) w ≡ allocated w roots (alloc_on (decode w) roots scratch b)
+    unfolding call
     formed-call d f = rw (opened-by r w e, f, d)
 
-    pub refused-call : (q : ℕ) → r ≡ checked.Refused q → call (allocs roots scratch a) w ≡ alloc_outcome (Refused q) w roots
-    unfolding call checked_answer allocated alloc_outcome
+    pub refused-call : (q : Question) → r ≡ Err q → call (allocs roots scratch a) w ≡ alloc_outcome (Refused (number q)) w roots
+    unfolding call allocated alloc_outcome
     refused-call q f = rw (opened-by r w e, f)
 
 -- 3

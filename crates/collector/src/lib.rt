@@ -23,7 +23,6 @@ ghost use Rattle.collector.specs.Alloc.{Worked, moves_at, gave_outcome, alloc_ou
 
 use barrier::masks::Masks;
 use cycle::turns::{Gave, Outcome, Request};
-use image::Checked;
 use question::Question;
 use value::Pointer;
 
@@ -215,7 +214,7 @@ pub fn alloc(image: &mut [u64], roots: &mut [u64], scratch: &mut [u64], amount: 
     ensures { call (allocs roots.old (length scratch.old) (of_z w64 amount)) image.old ≡ alloc_outcome result image.new roots.new }
 {
     match image::check(image) {
-        Checked::Formed => alloc_formed(image, roots, scratch, amount),
-        Checked::Refused(q) => Allocated::Refused(q),
+        Ok(()) => alloc_formed(image, roots, scratch, amount),
+        Err(q) => Allocated::Refused(q.number()),
     }
 }

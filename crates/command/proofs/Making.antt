@@ -2,6 +2,9 @@
 use mathlib.Core.Path.{◌≡◌, sym, ap, ◌∙◌}
 use mathlib.Core.Bool.{true, false}
 use mathlib.Core.List.{List, ◌++◌}
+use Rattle.std.specs.Prelude.{Option, Some, Result, Ok, Err}
+use Rattle.std.specs.Bool.{then_some}
+use Rattle.std.specs.Option.{IsSome}
 use Prim.Native.Nat.{ℕ, ◌+◌, ◌≤◌, zero-le}
 use native.Mathlib.Omega.{arith}
 use lib.ListN.{length, take, drop, length-append}
@@ -18,9 +21,8 @@ use Rattle.theorems.proofs.Image.{encode-length, fresh-fit}
 use Rattle.theorems.proofs.Lists.{eqb_same}
 use Rattle.theorems.proofs.Kept.{refused-ok}
 use Rattle.theorems.proofs.Program.{limits-bound, limited-image}
-use Rattle.image.specs.Answers.{or_zero, made_outcome}
-use Rattle.image.specs.declared.Made.{Made}
-use Rattle.image.specs.declared.Made.TheVariants as made
+use Rattle.question.specs.declared.Question.{Question}
+use Rattle.image.specs.Answers.{made_outcome}
 use Rattle.registers.specs.declared.Registers.{Registers}
 use Rattle.registers.specs.Cells.{Good}
 use Rattle.command.specs.declared.answers.Answer.{Answer}
@@ -44,25 +46,32 @@ module _ (buffer : List ℕ) (z : Sizes) where
   unfolding step stepped no_heap state_of heap_in
   make-refused e r g = record { stepping = rw e; whole = tt; ready = record { within = zero-le; held = held_none; good = g } }
 
-  module _ (room : program_words ≤ length buffer) (e : program_bounds z ≡ true) {k : ℕ} (is : k ≡ or_zero (in_bounds z) (image_length z)) where
-    long : k ≡ image_length z
-    long = is ∙ rw (limits-bound z e)
+  module _ (room : program_words ≤ length buffer) (e : program_bounds z ≡ true) {o : Option ℕ} (is : o ≡ then_some (in_bounds z) (image_length z)) where
+    make-some : o ≡ Some (image_length z)
+    make-some = is ∙ rw (limits-bound z e)
 
-    pub make-fits : k ≤ length buffer
-    make-fits = omega (arith, long, limited-image z e)
+    pub make-sized : IsSome o
+    make-sized = rw make-some
 
-    module _ (m : Made) (v : List ℕ) (done : made_outcome m v ≡ new_call z (take k buffer)) where
-      newly : made_outcome m v ≡ left (take k buffer) (ok (fresh z))
-      unfolding new_call
-      newly = done ∙ rw (limits-bound z e, length-take-le k buffer make-fits, long, eqb_same (image_length z))
+    module _ {k : ℕ} (words : o ≡ Some k) where
+      long : k ≡ image_length z
+      long = let s = make-some in cc
 
-      pub make-always : {q : ℕ} → m ≡ made.Refused q → ⊥
-      unfolding made_outcome left
-      make-always f = refused-ok (ap (λ (o : Outcome). o.answer) (ap (λ (x : Made). made_outcome x v) (sym f) ∙ newly))
+      pub make-fits : k ≤ length buffer
+      make-fits = omega (arith, long, limited-image z e)
 
-      pub make-done : m ≡ made.Done → (r : Registers) → Good r → Performs (new z) buffer (heapless r) answer.New (v ++ drop k buffer) (holding k r)
-      unfolding step no_heap state_of heap_in made_outcome left fresh
-      make-done f r g =
-          let fit : Fit (fresh z) = fresh-fit z (limits-bound z e) in
-          let image : v ≡ encode (fresh z) = ap (λ (o : Outcome). o.image) (ap (λ (x : Made). made_outcome x v) (sym f) ∙ newly) in
-          performs-front buffer (heapless r) {v = v} make-fits (ap length image ∙ encode-length (fresh z) fit ∙ sym long) (answers (rw (e, image, heap-encoded fit)) tt (rw image (held-image fit e)) g)
+      module _ (m : Result (Unit {0}) Question) (v : List ℕ) (done : made_outcome m v ≡ new_call z (take k buffer)) where
+        newly : made_outcome m v ≡ left (take k buffer) (ok (fresh z))
+        unfolding new_call
+        newly = done ∙ rw (limits-bound z e, length-take-le k buffer make-fits, long, eqb_same (image_length z))
+
+        pub make-always : {q : Question} → m ≡ Err q → ⊥
+        unfolding made_outcome left
+        make-always f = refused-ok (ap (λ (o : Outcome). o.answer) (ap (λ (x : Result (Unit {0}) Question). made_outcome x v) (sym f) ∙ newly))
+
+        pub make-done : m ≡ Ok tt → (r : Registers) → Good r → Performs (new z) buffer (heapless r) answer.New (v ++ drop k buffer) (holding k r)
+        unfolding step no_heap state_of heap_in made_outcome left fresh
+        make-done f r g =
+            let fit : Fit (fresh z) = fresh-fit z (limits-bound z e) in
+            let image : v ≡ encode (fresh z) = ap (λ (o : Outcome). o.image) (ap (λ (x : Result (Unit {0}) Question). made_outcome x v) (sym f) ∙ newly) in
+            performs-front buffer (heapless r) {v = v} make-fits (ap length image ∙ encode-length (fresh z) fit ∙ sym long) (answers (rw (e, image, heap-encoded fit)) tt (rw image (held-image fit e)) g)

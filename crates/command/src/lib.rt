@@ -21,7 +21,6 @@ ghost use Rattle.command.specs.Steps.{target_answer, target_in, is_new, Acts, Pe
 use access::{Loaded, Stored};
 pub use answers::Answer;
 use collector::Allocated;
-use image::Made;
 use reader::Command;
 use registers::Registers;
 use report::Reported;
@@ -266,14 +265,14 @@ fn make(buffer: &mut [u64], n: u64, t: u64, s: u64, c: u64) -> Begun
             words: 0,
         };
     }
-    let words = image::words(n, t, s, c) as usize;
+    let words = image::words(n, t, s, c).unwrap() as usize;
     match image::fresh(&mut buffer[..words], n, t, s, c) {
-        Made::Done => Begun {
+        Ok(()) => Begun {
             answer: Answer::New,
             words,
         },
-        Made::Refused(q) => Begun {
-            answer: Answer::Refused(q),
+        Err(q) => Begun {
+            answer: Answer::Refused(q.number()),
             words: 0,
         },
     }

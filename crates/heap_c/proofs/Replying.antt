@@ -1,6 +1,7 @@
 -- Replies by the cases of an answer, and carried along equal answers.
 use mathlib.Core.Path.{◌≡◌, refl, sym, ap, subst, ◌∙◌}
 use mathlib.Core.List.{List, [], ◌∷◌}
+use Rattle.std.specs.Prelude.{Result, Ok, Err}
 use Prim.Native.Nat.{ℕ}
 use mir.Syntax.{w64}
 use lib.IntN.{ℤ}
@@ -15,8 +16,8 @@ use Rattle.question.specs.declared.Question.{Question}
 use Rattle.value.specs.declared.Value.{Value}
 use Rattle.value.specs.Value.{value_cell}
 use Rattle.image.specs.Answers.{made_outcome}
-use Rattle.image.specs.declared.Made.{Made}
-use Rattle.image.specs.declared.Made.TheVariants as made
+use Rattle.question.specs.Question.{number}
+use Rattle.question.specs.declared.Question.{Question}
 use Rattle.access.specs.Access.{loaded_cell, loaded_outcome, stored_outcome}
 use Rattle.access.specs.declared.Loaded.{Loaded}
 use Rattle.access.specs.declared.Loaded.TheVariants as loaded
@@ -38,13 +39,13 @@ as-given x s f e = ap f (sym (to_z-of_z w64 x s)) ∙ e
 
 -- new
 
-pub made-done : {r : Made} → r ≡ made.Done → (v : List ℕ) → Leaves (made_outcome r v) 0 v
+pub made-done : {r : Result (Unit {0}) Question} → r ≡ Ok tt → (v : List ℕ) → Leaves (made_outcome r v) 0 v
 unfolding number_of made_outcome
-made-done e v = subst (λ (r : Made). Leaves (made_outcome r v) 0 v) (sym e) (record { number = refl; image = refl })
+made-done e v = subst (λ (r : Result (Unit {0}) Question). Leaves (made_outcome r v) 0 v) (sym e) (record { number = refl; image = refl })
 
-pub made-refused : {r : Made} {q : ℕ} → r ≡ made.Refused q → (v : List ℕ) → Leaves (made_outcome r v) q v
+pub made-refused : {r : Result (Unit {0}) Question} {q : Question} → r ≡ Err q → (v : List ℕ) → Leaves (made_outcome r v) (number q) v
 unfolding number_of made_outcome
-made-refused {q = q} e v = subst (λ (r : Made). Leaves (made_outcome r v) q v) (sym e) (record { number = refl; image = refl })
+made-refused {q = q} e v = subst (λ (r : Result (Unit {0}) Question). Leaves (made_outcome r v) (number q) v) (sym e) (record { number = refl; image = refl })
 
 -- write
 

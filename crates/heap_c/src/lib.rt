@@ -28,7 +28,6 @@ ghost use Rattle.heap_c.specs.Replies.{words_of, allocation_words, figure_words,
 use access::{Loaded, Stored};
 use collector::{Allocated, Allocation};
 use figure::Figure;
-use image::Made;
 use question::Question;
 use report::Reported;
 use value::{Pointer, Value};
@@ -58,7 +57,7 @@ fn answer<T: Words<N>, const N: usize>(r: Result<T, Question>, out: &mut [u64; N
 pub extern "C" fn heap_words(n: u64, t: u64, s: u64, c: u64) -> u64
     ensures { result ≡ or_zero (in_bounds (sizes n t s c)) (image_length (sizes n t s c)) }
 {
-    image::words(n, t, s, c)
+    image::words(n, t, s, c).unwrap_or(0)
 }
 
 // The words of scratch that r root cells want, 0 if a size or r is out of bounds.
@@ -66,17 +65,17 @@ pub extern "C" fn heap_words(n: u64, t: u64, s: u64, c: u64) -> u64
 pub extern "C" fn heap_scratch(n: u64, s: u64, c: u64, r: u64) -> u64
     ensures { result ≡ or_zero (in_bounds (sizes n 0 s c) && leb r 4096) (scratch_length (sizes n 0 s c) r) }
 {
-    image::scratch(n, s, c, r)
+    image::scratch(n, s, c, r).unwrap_or(0)
 }
 
 // ---- New
 
-fn made_number(r: Made) -> u64
+fn made_number(r: Result<(), Question>) -> u64
     ensures { (v : List ℕ) → Leaves (made_outcome r v) result v }
 {
     match r {
-        Made::Done => 0,
-        Made::Refused(q) => q,
+        Ok(()) => 0,
+        Err(q) => q.number(),
     }
 }
 

@@ -8,8 +8,7 @@ use lib.Dec.{eqb, ltb, leb}
 use borrow.Author.Tests.{ne_eqb}
 use lib.ListN.{length, get_or, drop, drop_of_length-le}
 use Rattle.model.specs.Image.{tiles}
-use Rattle.image.specs.declared.lengths.Filled.{Filled}
-use Rattle.image.specs.declared.lengths.Filled.TheVariants.{Next, Gap}
+use Rattle.std.specs.Prelude.{Option, Some, None}
 use Rattle.image.specs.Tiling.{next_if, tile_of}
 use Rattle.image.proofs.Scans.{word_at}
 
@@ -32,9 +31,9 @@ here left (suc skip) x h d = absurd (omega arith)
 
 -- the list behind it
 
-abbrev go_on : Filled → List ℕ → Bool
-go_on (Next left skip) xs = tiles left skip xs
-go_on Gap xs = false
+abbrev go_on : Option (ℕ × ℕ) → List ℕ → Bool
+go_on (Some n) xs = tiles n.0 n.1 xs
+go_on None xs = false
 
 goes : (t : Bool) (left skip : ℕ) (xs : List ℕ) → (t && tiles left skip xs) ≡ go_on (next_if t left skip) xs
 goes true left skip xs = refl
@@ -59,13 +58,13 @@ pub tiles-begin : (w : List ℕ) (left : ℕ) → Filling w (tiles left 0 w) lef
 tiles-begin w left = record { within = omega arith; is = refl }
 
 module _ {w : List ℕ} {goal : Bool} {left skip i : ℕ} (v : Filling w goal left skip i) where
-  tiles-step : {r : Filled} → i < length w → r ≡ tile_of left skip (get_or w i 0) → go_on r (drop (i + 1) w) ≡ goal
+  tiles-step : {r : Option (ℕ × ℕ)} → i < length w → r ≡ tile_of left skip (get_or w i 0) → go_on r (drop (i + 1) w) ≡ goal
   tiles-step h e = rw e (sym (tile-step left skip (get_or w i 0) (drop (i + 1) w)) ∙ (rw (word_at w i h) at v.is))
 
-  pub tiles-turn : {r : Filled} {l s : ℕ} → i < length w → r ≡ tile_of left skip (get_or w i 0) → r ≡ Next l s → Filling w goal l s (i + 1)
+  pub tiles-turn : {r : Option (ℕ × ℕ)} {l s : ℕ} → i < length w → r ≡ tile_of left skip (get_or w i 0) → r ≡ Some (l, s) → Filling w goal l s (i + 1)
   tiles-turn h e p = record { within = omega arith; is = rw p at (tiles-step h e) }
 
-  pub tiles-stop : {r : Filled} → i < length w → r ≡ tile_of left skip (get_or w i 0) → r ≡ Gap → false ≡ goal
+  pub tiles-stop : {r : Option (ℕ × ℕ)} → i < length w → r ≡ tile_of left skip (get_or w i 0) → r ≡ None → false ≡ goal
   tiles-stop h e p = rw p at (tiles-step h e)
 
   pub tiles-done : length w ≤ i → eqb left 0 ≡ goal

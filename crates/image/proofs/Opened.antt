@@ -2,6 +2,7 @@
 use mathlib.Core.Path.{◌≡◌, refl, sym, ap, ◌∙◌}
 use mathlib.Core.Bool.{Bool, true, false}
 use mathlib.Core.List.{List}
+use Rattle.std.specs.Prelude.{Result, Ok, Err}
 use Prim.Native.Nat.{ℕ}
 use native.Mathlib.Omega.{arith}
 use Rattle.model.specs.Res.{Res, ok, refuse, ◌>>=◌, ask}
@@ -10,11 +11,11 @@ use Rattle.model.specs.Image.{decode, sized, formed}
 use Rattle.model.specs.Calls.{opened}
 use Rattle.theorems.specs.Fit.{Image}
 use Rattle.theorems.proofs.Image.{image-of}
-use Rattle.image.specs.declared.Checked.{Checked}
-use Rattle.image.specs.declared.Checked.TheVariants.{Formed, Refused}
-use Rattle.image.specs.Answers.{checked_answer, image_asked}
+use Rattle.question.specs.Question.{number, done_answer}
+use Rattle.question.specs.declared.Question.{Question}
+use Rattle.image.specs.Answers.{image_asked}
 
-pub opened-by : (r : Checked) (w : List ℕ) → checked_answer r ≡ image_asked w → opened w ≡ (checked_answer r >>= λ _. ok (decode w))
+pub opened-by : (r : Result (Unit {0}) Question) (w : List ℕ) → done_answer r ≡ image_asked w → opened w ≡ (done_answer r >>= λ _. ok (decode w))
 unfolding opened image_asked
 opened-by r w e = rw e (go (sized w))
   where
@@ -24,28 +25,28 @@ opened-by r w e = rw e (go (sized w))
 
 -- the image is formed, or the call refused
 
-module _ (w : List ℕ) {r : Checked} (e : checked_answer r ≡ image_asked w) where
-  passed : r ≡ Formed → (sized w ≡ true) × (formed w ≡ true)
-  unfolding checked_answer image_asked
-  passed f = go (sized w) (formed w) (ap checked_answer (sym f) ∙ e)
+module _ (w : List ℕ) {r : Result (Unit {0}) Question} (e : done_answer r ≡ image_asked w) where
+  passed : r ≡ Ok tt → (sized w ≡ true) × (formed w ≡ true)
+  unfolding image_asked
+  passed f = go (sized w) (formed w) (ap done_answer (sym f) ∙ e)
     where
       go : (a b : Bool) → ok tt ≡ (ask 1 a >>= λ _. ask 2 b) → (a ≡ true) × (b ≡ true)
       go true true k = (refl, refl)
       go true false k = let z : ◌≡◌ {A = ℕ} 0 1 = cc in absurd (omega arith)
       go false b k = let z : ◌≡◌ {A = ℕ} 0 1 = cc in absurd (omega arith)
 
-  pub formed-image : r ≡ Formed → Image w (decode w)
+  pub formed-image : r ≡ Ok tt → Image w (decode w)
   formed-image f = image-of w (passed f).0 (passed f).1
 
-  pub formed-opened : {A : Type 0} (k : Heap → Res A) → r ≡ Formed → k (decode w) ≡ (opened w >>= k)
+  pub formed-opened : {A : Type 0} (k : Heap → Res A) → r ≡ Ok tt → k (decode w) ≡ (opened w >>= k)
   unfolding opened
   formed-opened k f = rw ((passed f).0, (passed f).1)
 
-  pub refused-opened : {A : Type 0} (k : Heap → Res A) (q : ℕ) → r ≡ Refused q → refuse q ≡ (opened w >>= k)
-  unfolding checked_answer image_asked opened
-  refused-opened {A} k q f = go (sized w) (formed w) (ap checked_answer (sym f) ∙ e)
+  pub refused-opened : {A : Type 0} (k : Heap → Res A) (q : Question) → r ≡ Err q → refuse (number q) ≡ (opened w >>= k)
+  unfolding image_asked opened
+  refused-opened {A} k q f = go (sized w) (formed w) (ap done_answer (sym f) ∙ e)
     where
-      go : (a b : Bool) → refuse q ≡ (ask 1 a >>= λ _. ask 2 b) → refuse q ≡ ((ask 1 a >>= λ _. ask 2 b >>= λ _. ok (decode w)) >>= k)
+      go : (a b : Bool) → refuse (number q) ≡ (ask 1 a >>= λ _. ask 2 b) → refuse (number q) ≡ ((ask 1 a >>= λ _. ask 2 b >>= λ _. ok (decode w)) >>= k)
       go true true t = let z : ◌≡◌ {A = ℕ} 0 1 = cc in absurd (omega arith)
-      go true false t = let z : q ≡ 2 = cc in ap refuse z
-      go false b t = let z : q ≡ 1 = cc in ap refuse z
+      go true false t = let z : number q ≡ 2 = cc in ap refuse z
+      go false b t = let z : number q ≡ 1 = cc in ap refuse z

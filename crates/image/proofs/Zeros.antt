@@ -2,6 +2,7 @@
 use mathlib.Core.Path.{◌≡◌, refl, sym, ap, ◌∙◌}
 use mathlib.Core.Bool.{Bool, true, false, ◌&&◌}
 use mathlib.Core.List.{List, [], ◌∷◌, ◌++◌, map, append-nil}
+use Rattle.std.specs.Prelude.{Ok, Err}
 use Prim.Native.Nat.{ℕ, zero, suc, ◌+◌, ◌-◌, ◌*◌, ◌≤◌, ◌<◌}
 use native.Mathlib.Nat.{le_antisymm}
 use native.Mathlib.Omega.{arith}
@@ -16,7 +17,7 @@ use Rattle.model.specs.Heap.{Sizes, in_bounds, fresh, in_use}
 use Rattle.model.specs.Image.{image_length, flag, encode}
 use Rattle.model.specs.Calls.{left, new_call}
 use Rattle.theorems.proofs.Lists.{and_right}
-use Rattle.image.specs.declared.Made.TheVariants.{Done, Refused}
+use Rattle.question.specs.declared.Question.TheVariants as question
 use Rattle.image.specs.Places.{sizes}
 use Rattle.image.specs.Answers.{made_outcome}
 use Rattle.image.proofs.Bounds.{said-no, said-yes}
@@ -78,7 +79,7 @@ put-sizes (suc (suc (suc zero))) n t s c h = absurd (omega arith)
 put-sizes (suc (suc (suc (suc k)))) n t s c h = let e : suc (suc (suc (suc k))) - 4 ≡ k = omega arith in rw e
 
 module _ {p : Bool} (n t s c : ℕ) (w : List ℕ) (e : p ≡ (in_bounds (sizes n t s c) && eqb (length w) (image_length (sizes n t s c)))) where
-  pub new-refused : p ≡ false → made_outcome (Refused 1) w ≡ new_call (sizes n t s c) w
+  pub new-refused : p ≡ false → made_outcome (Err question.Sizes) w ≡ new_call (sizes n t s c) w
   unfolding made_outcome new_call left
   new-refused h = rw (said-no e h)
 
@@ -89,7 +90,7 @@ module _ {p : Bool} (n t s c : ℕ) (w : List ℕ) (e : p ≡ (in_bounds (sizes 
   unfolding image_length
   new-room h = omega (arith, new-length h)
 
-  pub new-done : {v : List ℕ} → p ≡ true → v ≡ set (set (set (set (replicate (length w) 0) 0 n) 1 t) 2 s) 3 c → made_outcome Done v ≡ new_call (sizes n t s c) w
+  pub new-done : {v : List ℕ} → p ≡ true → v ≡ set (set (set (set (replicate (length w) 0) 0 n) 1 t) 2 s) 3 c → made_outcome (Ok tt) v ≡ new_call (sizes n t s c) w
   unfolding made_outcome new_call left
   new-done {v} h q =
       let image : v ≡ encode (fresh (sizes n t s c)) = q ∙ put-sizes (length w) n t s c (new-room h) ∙ rw (new-length h) (sym (fresh-image (sizes n t s c))) in

@@ -10,58 +10,52 @@ mod sizes;
 mod store;
 
 ghost use Rattle.std.specs.Prelude.{◌≡◌, ◌&&◌, leb};
+ghost use Rattle.std.specs.Bool.{then_some};
 ghost use Rattle.model.specs.Heap.{in_bounds};
 ghost use Rattle.model.specs.Image.{image_length};
 ghost use Rattle.model.specs.Calls.{roots_good, value_good, scratch_length, new_call};
 ghost use Rattle.image.specs.Places.{sizes};
-ghost use Rattle.image.specs.Answers.{checked_answer, image_asked, made_outcome, or_zero};
+ghost use Rattle.question.specs.Question.{done_answer};
+ghost use Rattle.image.specs.Answers.{image_asked, made_outcome};
 
-#[derive(Clone, Copy)]
-pub enum Checked {
-    Formed,
-    Refused(u64),
-}
+use question::Question;
 
-#[derive(Clone, Copy)]
-pub enum Made {
-    Done,
-    Refused(u64),
-}
-
-// The words of an image of these sizes, 0 if they are out of bounds.
-pub fn words(n: u64, t: u64, s: u64, c: u64) -> u64
-    ensures { result ≡ or_zero (in_bounds (sizes n t s c)) (image_length (sizes n t s c)) }
+// The words of an image of these sizes, if they are within bounds.
+pub fn words(n: u64, t: u64, s: u64, c: u64) -> Option<u64>
+    ensures { result ≡ then_some (in_bounds (sizes n t s c)) (image_length (sizes n t s c)) }
 {
     if !sizes::in_bounds(n, t, s, c) {
-        return 0;
+        return None;
     }
-    layout::image_length(n as usize, s as usize, c as usize) as u64
+    let length = layout::image_length(n as usize, s as usize, c as usize);
+    Some(length as u64)
 }
 
-// The words of scratch that r root cells want, 0 if a size or r is out of bounds.
-pub fn scratch(n: u64, s: u64, c: u64, r: u64) -> u64
-    ensures { result ≡ or_zero (in_bounds (sizes n 0 s c) && leb r 4096) (scratch_length (sizes n 0 s c) r) }
+// The words of scratch that r root cells want, if the sizes and r are within bounds.
+pub fn scratch(n: u64, s: u64, c: u64, r: u64) -> Option<u64>
+    ensures { result ≡ then_some (in_bounds (sizes n 0 s c) && leb r 4096) (scratch_length (sizes n 0 s c) r) }
 {
     if !sizes::in_bounds(n, 0, s, c) {
-        return 0;
+        return None;
     }
     if sizes::ROOTS < r {
-        return 0;
+        return None;
     }
-    layout::scratch_length(n as usize, s as usize, c as usize, r as usize) as u64
+    let length = layout::scratch_length(n as usize, s as usize, c as usize, r as usize);
+    Some(length as u64)
 }
 
 // Questions 1 and 2.
-pub fn check(image: &[u64]) -> Checked
-    ensures { checked_answer result ≡ image_asked image.now }
+pub fn check(image: &[u64]) -> Result<(), Question>
+    ensures { done_answer result ≡ image_asked image.now }
 {
     if !sizes::is_sized(image) {
-        return Checked::Refused(1);
+        return Err(Question::Sizes);
     }
     if !form::is_formed(image) {
-        return Checked::Refused(2);
+        return Err(Question::Form);
     }
-    Checked::Formed
+    Ok(())
 }
 
 // Question 3 of roots.
@@ -85,13 +79,13 @@ pub fn value_ok(cell: &[u64]) -> bool
 }
 
 // A fresh heap, over words of any content.
-pub fn fresh(image: &mut [u64], n: u64, t: u64, s: u64, c: u64) -> Made
+pub fn fresh(image: &mut [u64], n: u64, t: u64, s: u64, c: u64) -> Result<(), Question>
     ensures { made_outcome result image.new ≡ new_call (sizes n t s c) image.old }
 {
     if !sizes::fit(image.len(), n, t, s, c) {
-        return Made::Refused(1);
+        return Err(Question::Sizes);
     }
     store::zero(image);
     store::put(image, n, t, s, c);
-    Made::Done
+    Ok(())
 }

@@ -13,7 +13,6 @@ ghost use Rattle.fields.specs.Fields.{Reads, bar_of};
 ghost use Rattle.report.specs.Numbers.{young_numbers, old_numbers, numbers, report_outcome, question_of, record_of, record_answer, Fills};
 
 use elder::Swept;
-use image::Checked;
 use image::counts::MOST;
 use layout::places;
 
@@ -175,8 +174,8 @@ pub fn report(image: &mut [u64]) -> Reported
     ensures { report_call image.old ≡ report_outcome result image.new }
 {
     match image::check(image) {
-        Checked::Formed => report_formed(image),
-        Checked::Refused(q) => Reported::Refused(q),
+        Ok(()) => report_formed(image),
+        Err(q) => Reported::Refused(q.number()),
     }
 }
 

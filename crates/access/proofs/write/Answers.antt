@@ -5,14 +5,14 @@ use Rattle.image.proofs.Opened.{formed-image, formed-opened, refused-opened}
 use Rattle.access.proofs.write.Goals as goal
 
 pub write_formed-requires : goal.write_formed-requires
-write_formed-requires c = formed-image _ c.check.ensures c.in-Formed.is
+write_formed-requires c = formed-image _ c.check.ensures c.in-Ok.is
 
-pub returns-in-Formed : goal.returns-in-Formed
+pub returns-in-Ok : goal.returns-in-Ok
 unfolding call
-returns-in-Formed c =
-    ap (left _) (sym (formed-opened _ c.check.ensures (λ h. write_on h (pointer_of c.args.p) c.args.cell.now) c.in-Formed.is)) ∙ c.write_formed.ensures
+returns-in-Ok c =
+    ap (left _) (sym (formed-opened _ c.check.ensures (λ h. write_on h (pointer_of c.args.p) c.args.cell.now) c.in-Ok.is)) ∙ c.write_formed.ensures
 
-pub returns-in-Refused : goal.returns-in-Refused
+pub returns-in-Err : goal.returns-in-Err
 unfolding call left stored_outcome
-returns-in-Refused c =
-    ap (left _) (sym (refused-opened _ c.check.ensures (λ h. write_on h (pointer_of c.args.p) c.args.cell.now) _ c.in-Refused.is))
+returns-in-Err c =
+    rw c.number.ensures (ap (left _) (sym (refused-opened _ c.check.ensures (λ h. write_on h (pointer_of c.args.p) c.args.cell.now) _ c.in-Err.is)))

@@ -3,27 +3,31 @@ use Prim.Native.Nat.{◌≤◌}
 use lib.ListN.{length}
 use lib.Seq.{length-take-le}
 use Rattle.image.proofs.Bounds.{said-no, said-yes}
-use Rattle.command.proofs.Making.{make-refused, make-fits, make-always, make-done}
+use Rattle.command.proofs.Making.{make-refused, make-sized, make-fits, make-always, make-done}
 use Rattle.command.proofs.make.Goals as goal
-use Rattle.command.proofs.make.Goals.{After-words-words}
+use Rattle.command.proofs.make.Goals.{After-unwrap-words}
 
 -- the words fit
-fits : (c : After-words-words) → c.words-words.result ≤ length c.args.buffer.now
-fits c = make-fits c.args.buffer.now _ c.requires (said-yes c.is_bounded.ensures c.if-not-is_bounded.false) c.words-words.ensures
+fits : (c : After-unwrap-words) → c.unwrap-words.result ≤ length c.args.buffer.now
+fits c = make-fits c.args.buffer.now _ c.requires (said-yes c.is_bounded.ensures c.if-not-is_bounded.false) c.words.ensures c.unwrap-words.ensures
 
 pub returns-then-not-is_bounded : goal.returns-then-not-is_bounded
 returns-then-not-is_bounded c = make-refused _ _ (said-no c.is_bounded.ensures c.if-not-is_bounded.true)
+
+pub unwrap-words-requires : goal.unwrap-words-requires
+unwrap-words-requires c =
+    make-sized c.args.buffer.now _ c.requires (said-yes c.is_bounded.ensures c.if-not-is_bounded.false) c.words.ensures
 
 pub slice_bounds-fresh-end : goal.slice_bounds-fresh-end
 slice_bounds-fresh-end c = fits c
 
 pub slice_bounds-fresh-end-2 : goal.slice_bounds-fresh-end-2
-slice_bounds-fresh-end-2 c = sym (length-take-le _ _ (fits (goal.at.slice_bounds-fresh-end-2 c).After-words-words))
+slice_bounds-fresh-end-2 c = sym (length-take-le _ _ (fits (goal.at.slice_bounds-fresh-end-2 c).After-unwrap-words))
 
-pub returns-in-Done : goal.returns-in-Done
-returns-in-Done c =
-    make-done _ _ c.requires (said-yes c.is_bounded.ensures c.if-not-is_bounded.false) c.words-words.ensures _ _ c.fresh.ensures c.in-Done.is
+pub returns-in-Ok : goal.returns-in-Ok
+returns-in-Ok c =
+    make-done _ _ c.requires (said-yes c.is_bounded.ensures c.if-not-is_bounded.false) c.words.ensures c.unwrap-words.ensures _ _ c.fresh.ensures c.in-Ok.is
 
-pub returns-in-Refused : goal.returns-in-Refused
-returns-in-Refused c =
-    absurd (make-always _ _ c.requires (said-yes c.is_bounded.ensures c.if-not-is_bounded.false) c.words-words.ensures _ _ c.fresh.ensures c.in-Refused.is)
+pub returns-in-Err : goal.returns-in-Err
+returns-in-Err c =
+    absurd (make-always _ _ c.requires (said-yes c.is_bounded.ensures c.if-not-is_bounded.false) c.words.ensures c.unwrap-words.ensures _ _ c.fresh.ensures c.in-Err.is)

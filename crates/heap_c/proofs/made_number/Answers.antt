@@ -1,8 +1,8 @@
 use Rattle.heap_c.proofs.Replying.{made-done, made-refused}
 use Rattle.heap_c.proofs.made_number.Goals as goal
 
-pub returns-in-Done : goal.returns-in-Done
-returns-in-Done c = made-done c.in-Done.is
+pub returns-in-Ok : goal.returns-in-Ok
+returns-in-Ok c = made-done c.in-Ok.is
 
-pub returns-in-Refused : goal.returns-in-Refused
-returns-in-Refused c = made-refused c.in-Refused.is
+pub returns-in-Err : goal.returns-in-Err
+returns-in-Err c = rw c.number.ensures (made-refused c.in-Err.is)

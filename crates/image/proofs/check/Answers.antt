@@ -1,20 +1,20 @@
-use Rattle.image.specs.Answers.{checked_answer, image_asked}
+use Rattle.image.specs.Answers.{image_asked}
 use Rattle.image.proofs.Bounds.{said-no, said-yes, is-sized}
 use Rattle.image.proofs.check.Goals as goal
 
 pub returns-then-not-is_sized : goal.returns-then-not-is_sized
-unfolding checked_answer image_asked
+unfolding image_asked
 returns-then-not-is_sized c = rw (said-no c.is_sized.ensures c.if-not-is_sized.true)
 
 pub is_formed-requires : goal.is_formed-requires
 is_formed-requires c = is-sized _ (said-yes c.is_sized.ensures c.if-not-is_sized.false)
 
 pub returns-then-not-is_formed : goal.returns-then-not-is_formed
-unfolding checked_answer image_asked
+unfolding image_asked
 returns-then-not-is_formed c =
     rw (said-yes c.is_sized.ensures c.if-not-is_sized.false, said-no c.is_formed.ensures c.if-not-is_formed.true)
 
 pub returns : goal.returns
-unfolding checked_answer image_asked
+unfolding image_asked
 returns c =
     rw (said-yes c.is_sized.ensures c.if-not-is_sized.false, said-yes c.is_formed.ensures c.if-not-is_formed.false)

@@ -6,13 +6,13 @@ use Rattle.report.specs.Numbers.{report_outcome}
 use Rattle.report.proofs.report.Goals as goal
 
 pub report_formed-requires : goal.report_formed-requires
-report_formed-requires c = formed-image _ c.check.ensures c.in-Formed.is
+report_formed-requires c = formed-image _ c.check.ensures c.in-Ok.is
 
-pub returns-in-Formed : goal.returns-in-Formed
+pub returns-in-Ok : goal.returns-in-Ok
 unfolding report_call
-returns-in-Formed c =
-    ap (reported _) (sym (formed-opened _ c.check.ensures report c.in-Formed.is)) ∙ c.report_formed.ensures
+returns-in-Ok c =
+    ap (reported _) (sym (formed-opened _ c.check.ensures report c.in-Ok.is)) ∙ c.report_formed.ensures
 
-pub returns-in-Refused : goal.returns-in-Refused
+pub returns-in-Err : goal.returns-in-Err
 unfolding report_call reported report_outcome
-returns-in-Refused c = ap (reported _) (sym (refused-opened _ c.check.ensures report _ c.in-Refused.is))
+returns-in-Err c = rw c.number.ensures (ap (reported _) (sym (refused-opened _ c.check.ensures report _ c.in-Err.is)))

@@ -1,21 +1,11 @@
-use borrow.Author.Rules.{rules}
-use Rattle.image.proofs.Fills.{laws}
+use Rattle.image.proofs.Fills.{tiles-turn, tiles-stop, tiles-done}
 use Rattle.image.proofs.lengths.tiled.Goals as goal
 
-pub loop-i-init : goal.loop-i-init
-loop-i-init c = search (laws, rules)
+pub returns-in_default : goal.returns-in_default
+returns-in_default c = tiles-stop c.loop-x.invariant c.loop-x-test.true c.tile.ensures c.in_default.is
 
-pub enum_known-l : goal.enum_known-l
-enum_known-l c = search (laws, rules)
-
-pub enum_told-1 : goal.enum_told-1
-enum_told-1 c = search (laws, rules)
-
-pub returns-in-Gap : goal.returns-in-Gap
-returns-in-Gap c = search (laws, rules)
-
-pub loop-i-preserved : goal.loop-i-preserved
-loop-i-preserved c = search (laws, rules)
+pub loop-x-preserved : goal.loop-x-preserved
+loop-x-preserved c = tiles-turn c.loop-x.invariant c.loop-x-test.true c.tile.ensures c.in-Some.is
 
 pub returns : goal.returns
-returns c = search (laws, rules)
+returns c = tiles-done c.loop-x.invariant c.loop-x-test.false
