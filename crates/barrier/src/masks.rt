@@ -1,35 +1,39 @@
 // The masks of a heap: the places with a count above zero in the other's barrier.
-ghost use Rattle.std.specs.Prelude.{◌≡◌, ◌≤◌};
+ghost use Rattle.std.specs.Prelude.{◌≡◌, ◌≤◌, take};
 ghost use Rattle.model.specs.Barrier.{masks};
-ghost use Rattle.barrier.specs.Counts.{barrier_of, mask_list};
+ghost use Rattle.barrier.specs.Counts.{barrier_of};
 
 use crate::WriteBarrier;
 
 // The first `count` places.
 #[derive(Clone, Copy)]
 pub struct Masks {
-    pub places: [u64; 256],
-    pub count: usize,
+    places: [u64; 256],
+    count: usize,
+    ghost few: { count ≤ 256 },
 }
 
 impl Masks {
     pub fn of(barrier: WriteBarrier) -> Masks
-        ensures { (mask_list result ≡ masks (barrier_of barrier)) × (result.count ≤ 256) }
+        ensures { take result.count result.places ≡ masks (barrier_of barrier) }
     {
         let mut places = [0u64; WriteBarrier::SIZE];
         let mut count = 0;
-        let present = barrier.present;
-        if !present {
+        if !barrier.present {
             return Masks { places, count };
         }
-        let mut i = 0;
-        while i < WriteBarrier::SIZE {
+        for i in 0..WriteBarrier::SIZE {
             if 0 < barrier.counts[i] {
                 places[count] = i as u64;
                 count += 1;
             }
-            i += 1;
         }
         Masks { places, count }
+    }
+
+    pub fn as_slice(&self) -> &[u64]
+        ensures { result.now ≡ take self.now.count self.now.places }
+    {
+        &self.places[..self.count]
     }
 }

@@ -13,10 +13,8 @@ fn narrow(words: &[u64]) -> [u32; 256]
     ensures { result ≡ words.now }
 {
     let mut counts = [0u32; WriteBarrier::SIZE];
-    let mut i = 0;
-    while i < WriteBarrier::SIZE {
+    for i in 0..WriteBarrier::SIZE {
         counts[i] = words[i] as u32;
-        i += 1;
     }
     counts
 }
@@ -25,10 +23,8 @@ fn widen(from: [u32; 256], words: &mut [u64])
     requires { length words.old ≡ cache }
     ensures { words.new ≡ from }
 {
-    let mut i = 0;
-    while i < WriteBarrier::SIZE {
+    for i in 0..WriteBarrier::SIZE {
         words[i] = from[i] as u64;
-        i += 1;
     }
 }
 
@@ -39,10 +35,9 @@ pub fn load(flag: u64, words: &[u64]) -> WriteBarrier
     if flag == 0 {
         return WriteBarrier::new();
     }
-    let counts = narrow(words);
     WriteBarrier {
         present: true,
-        counts,
+        counts: narrow(words),
     }
 }
 
@@ -57,11 +52,9 @@ pub fn store(barrier: WriteBarrier, words: &mut [u64])
     requires { length words.old ≡ cache }
     ensures { words.new ≡ counts (barrier_of barrier) }
 {
-    let present = barrier.present;
-    if present {
-        let counts = barrier.counts;
-        widen(counts, words);
+    if barrier.present {
+        widen(barrier.counts, words);
     } else {
-        widen([0u32; WriteBarrier::SIZE], words);
+        words.fill(0);
     }
 }

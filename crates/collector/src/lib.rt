@@ -129,13 +129,11 @@ fn collect_and_change(image: &mut [u64], roots: &[u64], scratch: &mut [u64], amo
     requires { Ready image.old roots.now scratch.old (New amount) 2 false }
     ensures { Worked amount image.old roots.now scratch.old result image.new scratch.new }
 {
-    let m = Masks::of(fields::young_barrier(image));
-    let masks = m.places;
-    let count = m.count;
+    let masks = Masks::of(fields::young_barrier(image));
     let o = cycle::collect_and_push_allocation(
         image,
         roots,
-        &masks[..count],
+        masks.as_slice(),
         scratch,
         Request::New(amount),
         2,

@@ -57,11 +57,9 @@ pub fn collect_nursery(image: &mut [u64], roots: &[u64], scratch: &mut [u64]) ->
     requires roots_in_bounds { scratch_length (decode image.old).size (length roots.now / 3) ≤ length scratch.old }
     ensures { CollectedIn image.old roots.now scratch.old result image.new scratch.new }
 {
-    let m = Masks::of(fields::old_barrier(image));
-    let masks = m.places;
-    let count = m.count;
+    let masks = Masks::of(fields::old_barrier(image));
     let at = image.len();
-    nursery::collect(image, roots, &masks[..count], &mut scratch[at..])
+    nursery::collect(image, roots, masks.as_slice(), &mut scratch[at..])
 }
 
 // The saved allocation at base moved to the elder.

@@ -1,20 +1,8 @@
+use mathlib.Core.Path.{◌∙◌}
 use borrow.Author.Rules.{rules}
-use mathlib.Core.Path.{◌≡◌, sym}
 use native.Mathlib.Omega.{arith}
-use lib.ListN.{length}
-use lib.Seq.{length-take-le}
 use Rattle.collector.proofs.Changed.{worked-refused, change-asked, worked-done, worked-uncounted}
 use Rattle.collector.proofs.collect_and_change.Goals as goal
-use Rattle.collector.proofs.collect_and_change.Goals.{After-of-m}
-
-places-long : (c : After-of-m) → length c.of-m.result.places ≡ 256
-places-long c = search rules
-
-pub slice_bounds-masks-end : goal.slice_bounds-masks-end
-slice_bounds-masks-end c = let long = places-long (goal.at.slice_bounds-masks-end c).After-of-m in omega (arith, c.of-m.ensures.1)
-
-pub slice_bounds-collect_and_push_allocation-end : goal.slice_bounds-collect_and_push_allocation-end
-slice_bounds-collect_and_push_allocation-end c = let long = places-long (goal.at.slice_bounds-collect_and_push_allocation-end c).After-of-m in sym (length-take-le c.of-m.result.count c.of-m.result.places (omega (arith, c.of-m.ensures.1)))
 
 pub collect_and_push_allocation-o-requires : goal.collect_and_push_allocation-o-requires
 collect_and_push_allocation-o-requires c = record {
@@ -23,14 +11,14 @@ collect_and_push_allocation-o-requires c = record {
 }
 
 pub returns-in_default : goal.returns-in_default
-returns-in_default c = worked-refused c.requires c.young_barrier.ensures c.of-m.ensures.0 c.collect_and_push_allocation-o.ensures _ c.in_default.is
+returns-in_default c = worked-refused c.requires c.young_barrier.ensures (c.as_slice.ensures ∙ c.of-masks.ensures) c.collect_and_push_allocation-o.ensures _ c.in_default.is
 
 pub change_heap-requires : goal.change_heap-requires
-change_heap-requires c = let all = (change-asked c.requires c.young_barrier.ensures c.of-m.ensures.0 c.collect_and_push_allocation-o.ensures _ c.in-At.is (search rules)) in record { image = all.0; roots_in_bounds = all.1.0; moved_in_bounds = all.1.1 }
+change_heap-requires c = let all = (change-asked c.requires c.young_barrier.ensures (c.as_slice.ensures ∙ c.of-masks.ensures) c.collect_and_push_allocation-o.ensures _ c.in-At.is (search rules)) in record { image = all.0; roots_in_bounds = all.1.0; moved_in_bounds = all.1.1 }
 
 pub returns-in-Ok : goal.returns-in-Ok
-returns-in-Ok c = worked-done c.requires c.young_barrier.ensures c.of-m.ensures.0 c.collect_and_push_allocation-o.ensures _ c.in-At.is _ c.change_heap.ensures _ c.in-Ok.is
+returns-in-Ok c = worked-done c.requires c.young_barrier.ensures (c.as_slice.ensures ∙ c.of-masks.ensures) c.collect_and_push_allocation-o.ensures _ c.in-At.is _ c.change_heap.ensures _ c.in-Ok.is
 
 pub returns-in-Err : goal.returns-in-Err
 returns-in-Err c =
-    rw c.number.ensures (worked-uncounted c.requires c.young_barrier.ensures c.of-m.ensures.0 c.collect_and_push_allocation-o.ensures _ c.in-At.is _ c.change_heap.ensures _ c.in-Err.is)
+    rw c.number.ensures (worked-uncounted c.requires c.young_barrier.ensures (c.as_slice.ensures ∙ c.of-masks.ensures) c.collect_and_push_allocation-o.ensures _ c.in-At.is _ c.change_heap.ensures _ c.in-Err.is)

@@ -1,25 +1,18 @@
 use mathlib.Core.Path.{sym, ◌∙◌}
 use native.Mathlib.Omega.{arith}
-use Rattle.barrier.proofs.Turns.{seek-begin, seek-ended, seek-room, seek_found, seek-on}
+use Rattle.barrier.proofs.Turns.{seek-ended, seek_found, seek-on}
 use Rattle.barrier.proofs.cells.any_crosses.Goals as goal
-
-pub loop-at-init : goal.loop-at-init
-loop-at-init c = seek-begin _ _ c.requires
 
 pub returns-then-crosses : goal.returns-then-crosses
 returns-then-crosses c =
-    let t = c.before.before.before in
-    seek_found _ _ t.loop-at.invariant t.loop-at-test.true (sym c.crosses.ensures ∙ c.if-crosses.true)
+    let (size, (is, long), rem) = c.in-Some.ensures.steps in
+    seek_found _ _ c.loop-cell.invariant.2 _ _ is long (sym c.crosses.ensures ∙ c.if-crosses.true)
 
-pub overflow_add-at : goal.overflow_add-at
-overflow_add-at c =
-    let t = c.before.before.before in
-    omega (arith, seek-room _ _ t.loop-at.invariant t.loop-at-test.true)
-
-pub loop-at-preserved : goal.loop-at-preserved
-loop-at-preserved c =
-    let t = c.before.before.before in
-    seek-on _ _ t.loop-at.invariant t.loop-at-test.true (sym c.crosses.ensures ∙ c.if-crosses.false)
+pub loop-cell-preserved : goal.loop-cell-preserved
+loop-cell-preserved c =
+    let (size, (is, long), rem) = c.in-Some.ensures.steps in
+    let on = seek-on _ _ c.loop-cell.invariant.2 _ _ is long size (sym c.crosses.ensures ∙ c.if-crosses.false) in
+    (omega (arith, on.size), tt, on)
 
 pub returns : goal.returns
-returns c = seek-ended _ _ c.loop-at.invariant c.loop-at-test.false
+returns c = seek-ended _ _ c.loop-cell.invariant.2 c.in-None.ensures.steps.1.0

@@ -24,12 +24,12 @@ pub returns-then-flag-eq0 : goal.returns-then-flag-eq0
 unfolding barrier
 returns-then-flag-eq0 c = rw c.if-flag-eq0.true c.new.ensures
 
-pub narrow-counts-requires : goal.narrow-counts-requires
-narrow-counts-requires c =
+pub narrow-requires : goal.narrow-requires
+narrow-requires c =
     let s = c.before.before in
     (s.requires.1, bounded s.args.words.now s.args.flag c.if-flag-eq0.false s.requires.0)
 
 pub returns : goal.returns
 returns c =
     let a = c.args in
-    ap present c.narrow-counts.ensures ∙ on a.words.now a.flag c.if-flag-eq0.false
+    ap present c.narrow.ensures ∙ on a.words.now a.flag c.if-flag-eq0.false

@@ -2,10 +2,10 @@ use borrow.Author.Rules.{rules}
 use Rattle.model.specs.Barrier.{cache, counts}
 use Rattle.barrier.proofs.words.store.Goals as goal
 
-pub returns-then-present : goal.returns-then-present
+pub returns-then-barrier : goal.returns-then-barrier
 unfolding counts
-returns-then-present c = search rules
+returns-then-barrier c = search rules
 
-pub returns-else-present : goal.returns-else-present
+pub returns-else-barrier : goal.returns-else-barrier
 unfolding counts cache
-returns-else-present c = search rules
+returns-else-barrier c = search rules

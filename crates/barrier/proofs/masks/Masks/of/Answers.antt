@@ -1,7 +1,6 @@
 use borrow.Author.Rules.{rules}
 use mathlib.Core.Path.{◌≡◌}
 use Prim.Native.Nat.{ℕ}
-use native.Mathlib.Omega.{arith}
 use lib.ListN.{length, length-replicate}
 use Rattle.model.specs.Barrier.{masks}
 use Rattle.barrier.proofs.Places.{found_none, found-more, found-same, found_all}
@@ -11,9 +10,9 @@ use Rattle.barrier.proofs.masks.Masks.of.Goals.{Start, then-barrier-i-gt0, else-
 counts-long : (s : Start) → length s.args.barrier.counts ≡ 256
 counts-long s = search rules
 
-pub returns-then-not-present : goal.returns-then-not-present
+pub returns-then-not-barrier : goal.returns-then-not-barrier
 unfolding masks
-returns-then-not-present c = (rw c.if-not-present.true, search rules)
+returns-then-not-barrier c = rw c.if-not-barrier.true
 
 pub loop-i-init : goal.loop-i-init
 loop-i-init c = found_none _ _ (length-replicate {A = ℕ} 256 0)
@@ -31,5 +30,4 @@ loop-i-preserved c =
 pub returns : goal.returns
 unfolding masks
 returns c =
-    let l = c.loop-i.invariant in
-    (rw c.if-not-present.false (found_all l (counts-long c.before.before.before) c.loop-i-test.false), omega (arith, l.within, l.few))
+    rw c.if-not-barrier.false (found_all c.loop-i.invariant (counts-long c.before.before.before.before) c.loop-i-test.false)
