@@ -25,15 +25,15 @@ use Rattle.theorems.specs.Fit.{Image}
 use Rattle.theorems.specs.Does.{with_young}
 use Rattle.theorems.proofs.Cells.{whole_back}
 use Rattle.theorems.proofs.Lists.{and_parts}
-use Rattle.question.specs.Question.{number, done_answer}
+use Rattle.question.specs.Question.{done_answer}
 use Rattle.question.specs.declared.Question.{Question}
+use Rattle.question.specs.declared.Question.TheVariants as question
 use Rattle.image.specs.Answers.{image_asked}
 use Rattle.image.specs.Places.{image_end}
 use Rattle.image.proofs.Bounds.{bounded, scratch-end}
 use Rattle.image.proofs.Opened.{opened-by}
 use Rattle.fields.specs.Fields.{Reads, Turns, on_young}
 use Rattle.collector.specs.Alloc.{alloc_outcome}
-use Rattle.collector.specs.declared.Allocated.TheVariants.{At, Refused}
 
 -- 1 and 2
 
@@ -43,7 +43,7 @@ module _ (w : List ℕ) {r : Result (Unit {0}) Question} (e : done_answer r ≡ 
     unfolding call
     formed-call d f = rw (opened-by r w e, f, d)
 
-    pub refused-call : (q : Question) → r ≡ Err q → call (allocs roots scratch a) w ≡ alloc_outcome (Refused (number q)) w roots
+    pub refused-call : (q : Question) → r ≡ Err q → call (allocs roots scratch a) w ≡ alloc_outcome (Err q) w roots
     unfolding call allocated alloc_outcome
     refused-call q f = rw (opened-by r w e, f)
 
@@ -103,7 +103,7 @@ module _ (x : ℤ) (f : SFits w64 x) (h : le_z (to_z w64 (of_z w64 x)) (pos 0) �
 pub stays-young : {w v : List ℕ} {b a : ℕ} → Image w (decode w) → Reads (λ h. h.young.cursor) w b → Turns (on_young (λ y. bump y a)) w v
     → (0 < a) × (a < (decode w).size.n - (decode w).young.cursor) → (roots : List ℕ) → roots_good roots ≡ true
     → allocated w roots (alloc (decode w) (cells_in roots) a)
-    ≡ alloc_outcome (At (record { pointer = record { heap = 0; base = b; offset = pos 0 }; nursery = record { collections = 0; visits = 0 }; elder = record { collections = 0; visits = 0 } })) v roots
+    ≡ alloc_outcome (Ok (record { pointer = record { heap = 0; base = b; offset = pos 0 }; nursery = record { collections = 0; visits = 0 }; elder = record { collections = 0; visits = 0 } })) v roots
 unfolding alloc allocated alloc_outcome with_young whole four_counts sweeps_of sum
 stays-young {w} {v} {b} {a} i r t (above, few) roots e =
     let small : a < 0x8000_0000_0000_0000 = omega (arith, few, (bounded (decode w).size i.fit.sizes).n) in
@@ -115,12 +115,12 @@ module _ (w roots : List ℕ) (scratch : ℕ) (x : ℤ) where
   abbrev asked : Outcome
   asked = allocated w roots (alloc_on (decode w) roots scratch (of_z w64 x))
 
-  pub roots-refused : roots_good roots ≡ false → asked ≡ alloc_outcome (Refused 3) w roots
+  pub roots-refused : roots_good roots ≡ false → asked ≡ alloc_outcome (Err question.Cells) w roots
   unfolding alloc_on allocated alloc_outcome
   roots-refused e = rw e
 
   module _ (good : roots_good roots ≡ true) where
-    pub scratch-refused : scratch < scratch_length (decode w).size (length roots / 3) → asked ≡ alloc_outcome (Refused 4) w roots
+    pub scratch-refused : scratch < scratch_length (decode w).size (length roots / 3) → asked ≡ alloc_outcome (Err question.Scratch) w roots
     unfolding alloc_on allocated alloc_outcome
     scratch-refused h = rw (good, lt-leb (scratch_length (decode w).size (length roots / 3)) scratch h)
 
@@ -129,7 +129,7 @@ module _ (w roots : List ℕ) (scratch : ℕ) (x : ℤ) where
       unfolding alloc_on
       asked-alloc = rw (good, le-leb (scratch_length (decode w).size (length roots / 3)) scratch room)
 
-      pub amount-refused : SFits w64 x → le_z (to_z w64 (of_z w64 x)) (pos 0) ≡ true → asked ≡ alloc_outcome (Refused 5) w roots
+      pub amount-refused : SFits w64 x → le_z (to_z w64 (of_z w64 x)) (pos 0) ≡ true → asked ≡ alloc_outcome (Err question.Amount) w roots
       unfolding alloc allocated alloc_outcome
       amount-refused f h = asked-alloc ∙ rw (not-above-zero x (rw (to_z-of_z w64 x f) at h) f)
 

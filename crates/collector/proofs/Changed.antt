@@ -16,7 +16,7 @@ use Rattle.theorems.specs.Fit.{Image}
 use Rattle.theorems.specs.Does.{Does}
 use Rattle.theorems.proofs.Does.{answered, does-then, does-refused, does-same}
 use Rattle.theorems.proofs.Res.{holds_at}
-use Rattle.question.specs.Question.{number, done_answer}
+use Rattle.question.specs.Question.{done_answer}
 use Rattle.question.specs.declared.Question.{Question}
 use Rattle.trace.proofs.Entries.{length-tab}
 use Rattle.trace.proofs.Places.{in-length}
@@ -27,8 +27,6 @@ use Rattle.cycle.specs.Turns.{Turn, push_turn}
 use Rattle.cycle.specs.Outcomes.{Ready, Ran, outcome_answer, gave_turn, kept_to}
 use Rattle.cycle.specs.declared.turns.Request.TheVariants.{New}
 use Rattle.cycle.specs.declared.turns.Gave.{Gave}
-use Rattle.cycle.specs.declared.turns.Outcome.{Outcome}
-use Rattle.cycle.specs.declared.turns.Outcome.TheVariants.{At, Refused}
 use Rattle.cycle.proofs.Doing.{map_res, does-map}
 use Rattle.cycle.proofs.Frames.{moves-same}
 use Rattle.cycle.proofs.Lending.{image-long}
@@ -63,7 +61,7 @@ lists-there w roots s room = omega arith
 -- what the cycle left, and what the change makes of it
 
 module _ {a : ℕ} {w roots s ms : List ℕ} (r : Ready w roots s (New a) 2 false) {b : Barrier} (bar : Reads (λ h. h.young.bar) w b) (are : ms ≡ masks b)
-    {o : Outcome} {u t : List ℕ} (d : Ran (push_turn (parts_in (decode w).size s) (cells_in roots) ms (New a) 2 false) 2 false w roots s o u t) where
+    {o : Result Gave Question} {u t : List ℕ} (d : Ran (push_turn (parts_in (decode w).size s) (cells_in roots) ms (New a) 2 false) 2 false w roots s o u t) where
   abbrev z : Sizes
   z = (decode w).size
 
@@ -78,13 +76,12 @@ module _ {a : ℕ} {w roots s ms : List ℕ} (r : Ready w roots s (New a) 2 fals
   unfolding kept_to
   front = d.front
 
-  pub worked-refused : (q : ℕ) → o ≡ Refused q → Worked a w roots s o u t
-  unfolding work_step outcome_answer then-change
+  pub worked-refused : (q : Question) → o ≡ Err q → Worked a w roots s o u t
+  unfolding work_step then-change
   worked-refused q e = record { does = rw e (does-refused then-change (rw e at cycled)); front = front }
 
-  module _ (g : Gave) (e : o ≡ At g) where
+  module _ (g : Gave) (e : o ≡ Ok g) where
     gave : Does (λ h. push_turn (parts_in z s) (cells_in roots) (masks h.young.bar) (New a) 2 false h) w (ok (gave_turn z (length roots / 3) t g)) u
-    unfolding outcome_answer
     gave = rw e at cycled
 
     went : (y : Turn × Heap) × (push_turn (parts_in z s) (cells_in roots) (masks (decode w).young.bar) (New a) 2 false (decode w) ≡ ok y) × (gave_turn z (length roots / 3) t g ≡ y.0) × (decode u ≡ y.1) × Image u (decode u)
@@ -113,10 +110,8 @@ module _ {a : ℕ} {w roots s ms : List ℕ} (r : Ready w roots s (New a) 2 fals
       unfolding work_step gave_turn then-change
       changed f = rw (← f) (does-then then-change gave (does-map (λ _. gave_turn z (length roots / 3) t g) (rw sizes-then at n)))
 
-      pub worked-done : (y : Unit {0}) → c ≡ Ok y → Worked a w roots s (At g) v t
-      unfolding outcome_answer
+      pub worked-done : (y : Unit {0}) → c ≡ Ok y → Worked a w roots s (Ok g) v t
       worked-done y f = record { does = changed (rw f); front = front }
 
-      pub worked-uncounted : (q : Question) → c ≡ Err q → Worked a w roots s (Refused (number q)) v t
-      unfolding outcome_answer
+      pub worked-uncounted : (q : Question) → c ≡ Err q → Worked a w roots s (Err q) v t
       worked-uncounted q f = record { does = changed (rw f); front = front }

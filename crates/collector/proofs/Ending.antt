@@ -26,15 +26,15 @@ use Rattle.trace.proofs.Places.{in-length}
 use Rattle.pointers.specs.Steps.{moves_in, move_at, with_both, changes_step}
 use Rattle.cycle.specs.Scratch.{bases_at, parts_in}
 use Rattle.cycle.specs.Turns.{Turn}
-use Rattle.cycle.specs.Outcomes.{Ready, outcome_answer, gave_turn}
+use Rattle.cycle.specs.Outcomes.{Ready, gave_turn}
 use Rattle.cycle.specs.declared.turns.Request.TheVariants.{New}
 use Rattle.cycle.specs.declared.turns.Gave.{Gave}
-use Rattle.cycle.specs.declared.turns.Outcome.{Outcome}
-use Rattle.cycle.specs.declared.turns.Outcome.TheVariants.{At, Refused}
+use Rattle.question.specs.Question.{number}
+use Rattle.question.specs.declared.Question.{Question}
+use Rattle.std.proofs.Common.{Result, Ok, Err}
 use Rattle.cycle.proofs.Lending.{image-long}
 use Rattle.cycle.proofs.Sizes.{Moved, moved-few}
 use Rattle.words.specs.Words.{padded}
-use Rattle.collector.specs.declared.Allocated.TheVariants as allocs
 use Rattle.collector.specs.Saving.{SavedTo}
 use Rattle.collector.proofs.Front.{saved-lens, saved-parts, saved-is, put_back}
 use Rattle.collector.proofs.Collecting.{collect-is-work}
@@ -74,25 +74,24 @@ module _ (a : ℕ) (w roots s : List ℕ) {k : ℕ} (i : Image w (decode w)) (go
     first = λ e f. saved-lens i saved;
   }
 
-  module _ {o : Outcome} {v x : List ℕ} (d : Worked a w roots s o v x) where
+  module _ {o : Result Gave Question} {v x : List ℕ} (d : Worked a w roots s o v x) where
     model_is : allocated w roots (collect_and_alloc (decode w) (cells_in roots) a) ≡ work_outcome w roots (work_step (parts_in (decode w).size s) (cells_in roots) a (decode w))
     model_is = collect-is-work w roots (decode w) a (parts_in (decode w).size s) (saved-parts i saved)
 
     -- the image is put back
-    pub refused-is : (q : ℕ) → o ≡ Refused q → {m : List ℕ} → m ≡ padded (take k x) (length v) → length v ≡ length w → allocated w roots (collect_and_alloc (decode w) (cells_in roots) a) ≡ alloc_outcome (allocs.Refused q) m roots
-    unfolding outcome_answer work_outcome alloc_outcome
+    pub refused-is : (q : Question) → o ≡ Err q → {m : List ℕ} → m ≡ padded (take k x) (length v) → length v ≡ length w → allocated w roots (collect_and_alloc (decode w) (cells_in roots) a) ≡ alloc_outcome (Err q) m roots
+    unfolding work_outcome alloc_outcome
     refused-is q e {m} f l = model_is ∙ go (work_step (parts_in (decode w).size s) (cells_in roots) a (decode w)) (rw e at (d.does.does (decode w) i))
       where
         back : w ≡ m
         back = sym (f ∙ ap (padded (take k x)) l ∙ put_back i saved x d.front.same)
 
-        go : (n : Res (Turn × Heap)) → Meets n (refuse q) v → work_outcome w roots n ≡ alloc_outcome (allocs.Refused q) m roots
+        go : (n : Res (Turn × Heap)) → Meets n (refuse (number q)) v → work_outcome w roots n ≡ alloc_outcome (Err q) m roots
         go (ok y) k = absurd k
         go (refuse p) k = λ j. record { answer = refuse (sym k j); image = back j; roots = roots }
 
-    module _ (g : Gave) (e : o ≡ At g) where
+    module _ (g : Gave) (e : o ≡ Ok g) where
       went : (y : Turn × Heap) × (work_step (parts_in (decode w).size s) (cells_in roots) a (decode w) ≡ ok y) × (gave_turn (decode w).size (length roots / 3) x g ≡ y.0) × (decode v ≡ y.1) × Image v (decode v)
-      unfolding outcome_answer
       went = answered i (rw e at d.does)
 
       small : Moved (parts_in (decode w).size s) (cells_in roots) (masks (decode w).young.bar) (decode w) went.0

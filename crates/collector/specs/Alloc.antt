@@ -1,5 +1,5 @@
 -- Alloc's answers in the model, and the parts in which it is done.
-use Rattle.std.specs.Prelude.{false, List, [], ◌∷◌, ℕ, ◌/◌, length, drop}
+use Rattle.std.specs.Prelude.{Result, false, List, [], ◌∷◌, ℕ, ◌/◌, length, drop}
 use Rattle.std.specs.Int.{w64}
 use Rattle.std.proofs.Common.{of_z}
 use Rattle.model.specs.Res.{Res, ok, refuse, ◌>>=◌}
@@ -16,18 +16,17 @@ use Rattle.cycle.specs.Turns.{Turn, push_turn}
 use Rattle.cycle.specs.Outcomes.{outcome_answer}
 use Rattle.cycle.specs.declared.turns.Request.TheVariants.{New}
 use Rattle.cycle.specs.declared.turns.Gave.{Gave}
-use Rattle.cycle.specs.declared.turns.Outcome as turns
-use Rattle.collector.specs.declared.Allocated.{Allocated}
-use Rattle.collector.specs.declared.Allocated.TheVariants.{At, Refused}
+use Rattle.question.specs.Question.{answer}
+use Rattle.question.specs.declared.Question.{Question}
+use Rattle.collector.specs.declared.Allocation.{Allocation}
 
 -- the answer: the pointer, then the four counts
-unfoldable pub alloc_outcome : Allocated → List ℕ → List ℕ → Outcome
-alloc_outcome (At a) v roots = record {
-  answer = ok (a.pointer.heap ∷ a.pointer.base ∷ of_z w64 a.pointer.offset ∷ a.nursery.collections ∷ a.nursery.visits ∷ a.elder.collections ∷ a.elder.visits ∷ []);
+unfoldable pub alloc_outcome : Result Allocation Question → List ℕ → List ℕ → Outcome
+alloc_outcome r v roots = record {
+  answer = answer (λ a. a.pointer.heap ∷ a.pointer.base ∷ of_z w64 a.pointer.offset ∷ a.nursery.collections ∷ a.nursery.visits ∷ a.elder.collections ∷ a.elder.visits ∷ []) r;
   image = v;
   roots = roots;
 }
-alloc_outcome (Refused q) v roots = record { answer = refuse q; image = v; roots = roots }
 
 -- the answer of a call that collected the nursery
 unfoldable pub gave_outcome : Gave → List ℕ → List ℕ → Outcome
@@ -51,6 +50,6 @@ abbrev pub moves_at : Sizes → ℕ → ℕ → List ℕ → List (Ptr × ℕ)
 moves_at z r k s = moves_in k (drop (image_length z) s) (drop (bases_at z r) s)
 
 -- the saved image stays in front of scratch
-pub record Worked (a : ℕ) (w roots s : List ℕ) (o : turns.Outcome) (v s' : List ℕ) : Type 0 where
+pub record Worked (a : ℕ) (w roots s : List ℕ) (o : Result Gave Question) (v s' : List ℕ) : Type 0 where
   pub does : Does (work_step (parts_in (decode w).size s) (cells_in roots) a) w (outcome_answer (decode w).size (length roots / 3) s' o) v
   pub front : Front (image_length (decode w).size) s s'

@@ -4,7 +4,7 @@
 
 mod saved;
 
-ghost use Rattle.std.specs.Prelude.{◌≡◌, true, false, List, ℕ, ◌+◌, ◌-◌, ◌*◌, ◌/◌, ◌≤◌, ◌<◌, length};
+ghost use Rattle.std.specs.Prelude.{Ok, ◌≡◌, true, false, List, ℕ, ◌+◌, ◌-◌, ◌*◌, ◌/◌, ◌≤◌, ◌<◌, length};
 ghost use Rattle.std.specs.Int.{w64};
 ghost use Rattle.std.proofs.Common.{of_z};
 ghost use Rattle.model.specs.Records.{cell_words};
@@ -22,12 +22,12 @@ ghost use Rattle.cycle.specs.declared.turns.Request.TheVariants.{New};
 ghost use Rattle.collector.specs.Alloc.{Worked, moves_at, gave_outcome, alloc_outcome};
 
 use barrier::masks::Masks;
-use cycle::turns::{Gave, Outcome, Request};
+use cycle::turns::{Gave, Request};
 use question::Question;
 use value::Pointer;
 
 // A generation's collections in one call, and their visits.
-#[derive(Clone, Copy)]
+#[derive(Clone, Copy, Default)]
 pub struct Work {
     pub collections: u64,
     pub visits: u64,
@@ -38,13 +38,6 @@ pub struct Allocation {
     pub pointer: Pointer,
     pub nursery: Work,
     pub elder: Work,
-}
-
-// Refused has the number of the question that got a no.
-#[derive(Clone, Copy)]
-pub enum Allocated {
-    At(Allocation),
-    Refused(u64),
 }
 
 // The words of scratch that 4 asks for.
@@ -60,10 +53,10 @@ fn scratch_for(image: &[u64], roots: &[u64]) -> usize
 }
 
 // An amount that stays young: nothing is collected.
-fn stay_young(image: &mut [u64], amount: u64) -> Allocated
+fn stay_young(image: &mut [u64], amount: u64) -> Allocation
     requires image { Image image.old (decode image.old) }
     requires amount_nonzero { (0 < amount) × (amount < (decode image.old).size.n - (decode image.old).young.cursor) }
-    ensures { (roots : List ℕ) → roots_good roots ≡ true → allocated image.old roots (alloc (decode image.old) (cells_in roots) amount) ≡ alloc_outcome result image.new roots }
+    ensures { (roots : List ℕ) → roots_good roots ≡ true → allocated image.old roots (alloc (decode image.old) (cells_in roots) amount) ≡ alloc_outcome (Ok result) image.new roots }
 {
     let base = fields::cursor(image);
     fields::bump(image, amount);
@@ -72,20 +65,16 @@ fn stay_young(image: &mut [u64], amount: u64) -> Allocated
         base,
         offset: 0,
     };
-    let nothing = Work {
-        collections: 0,
-        visits: 0,
-    };
-    Allocated::At(Allocation {
+    Allocation {
         pointer,
-        nursery: nothing,
-        elder: nothing,
-    })
+        nursery: Work::default(),
+        elder: Work::default(),
+    }
 }
 
 // The answer of a call that collected the nursery.
-fn collected(g: Gave) -> Allocated
-    ensures { (v roots : List ℕ) → alloc_outcome result v roots ≡ gave_outcome g v roots }
+fn collected(g: Gave) -> Allocation
+    ensures { (v roots : List ℕ) → alloc_outcome (Ok result) v roots ≡ gave_outcome g v roots }
 {
     let pointer = Pointer {
         heap: g.heap,
@@ -100,11 +89,11 @@ fn collected(g: Gave) -> Allocated
         collections: g.sweeps,
         visits: g.entered,
     };
-    Allocated::At(Allocation {
+    Allocation {
         pointer,
         nursery,
         elder,
-    })
+    }
 }
 
 // Moved pointers are changed in both generations.
@@ -125,12 +114,17 @@ fn change_heap(
 }
 
 // The cycle, then the change.
-fn collect_and_change(image: &mut [u64], roots: &[u64], scratch: &mut [u64], amount: u64) -> Outcome
+fn collect_and_change(
+    image: &mut [u64],
+    roots: &[u64],
+    scratch: &mut [u64],
+    amount: u64,
+) -> Result<Gave, Question>
     requires { Ready image.old roots.now scratch.old (New amount) 2 false }
     ensures { Worked amount image.old roots.now scratch.old result image.new scratch.new }
 {
     let masks = Masks::of(fields::young_barrier(image));
-    let o = cycle::collect_and_push_allocation(
+    let g = cycle::collect_and_push_allocation(
         image,
         roots,
         masks.as_slice(),
@@ -138,14 +132,9 @@ fn collect_and_change(image: &mut [u64], roots: &[u64], scratch: &mut [u64], amo
         Request::New(amount),
         2,
         false,
-    );
-    let Outcome::At(g) = o else {
-        return o;
-    };
-    match change_heap(image, roots, scratch, g.moved) {
-        Ok(()) => Outcome::At(g),
-        Err(q) => Outcome::Refused(q.number()),
-    }
+    )?;
+    change_heap(image, roots, scratch, g.moved)?;
+    Ok(g)
 }
 
 // The roots change last, when nothing can refuse any more.
@@ -162,7 +151,12 @@ fn change_roots(image: &[u64], roots: &mut [u64], scratch: &[u64], moved: usize)
 }
 
 // An amount that does not fit. A refusal at any depth puts the image back.
-fn collect_for(image: &mut [u64], roots: &mut [u64], scratch: &mut [u64], amount: u64) -> Allocated
+fn collect_for(
+    image: &mut [u64],
+    roots: &mut [u64],
+    scratch: &mut [u64],
+    amount: u64,
+) -> Result<Allocation, Question>
     requires image { Image image.old (decode image.old) }
     requires roots_value { roots_good roots.old ≡ true }
     requires roots_in_bounds { scratch_length (decode image.old).size (length roots.old / 3) ≤ length scratch.old }
@@ -170,15 +164,14 @@ fn collect_for(image: &mut [u64], roots: &mut [u64], scratch: &mut [u64], amount
     ensures { allocated image.old roots.old (collect_and_alloc (decode image.old) (cells_in roots.old) amount) ≡ alloc_outcome result image.new roots.new }
 {
     let used = saved::save(image, scratch);
-    let o = collect_and_change(image, roots, scratch, amount);
-    match o {
-        Outcome::At(g) => {
+    match collect_and_change(image, roots, scratch, amount) {
+        Ok(g) => {
             change_roots(image, roots, scratch, g.moved);
-            collected(g)
+            Ok(collected(g))
         }
-        Outcome::Refused(q) => {
+        Err(q) => {
             saved::restore(image, scratch, used);
-            Allocated::Refused(q)
+            Err(q)
         }
     }
 }
@@ -188,31 +181,34 @@ pub fn alloc_formed(
     roots: &mut [u64],
     scratch: &mut [u64],
     amount: i64,
-) -> Allocated
+) -> Result<Allocation, Question>
     requires { Image image.old (decode image.old) }
     ensures { on_formed (allocs roots.old (length scratch.old) (of_z w64 amount)) image.old ≡ alloc_outcome result image.new roots.new }
 {
     if !image::roots_ok(roots) {
-        return Allocated::Refused(3);
+        return Err(Question::Cells);
     }
     if scratch.len() < scratch_for(image, roots) {
-        return Allocated::Refused(4);
+        return Err(Question::Scratch);
     }
     if amount <= 0 {
-        return Allocated::Refused(5);
+        return Err(Question::Amount);
     }
     let cells = amount as u64;
     if nursery::fits(image, cells) {
-        return stay_young(image, cells);
+        return Ok(stay_young(image, cells));
     }
     collect_for(image, roots, scratch, cells)
 }
 
-pub fn alloc(image: &mut [u64], roots: &mut [u64], scratch: &mut [u64], amount: i64) -> Allocated
+pub fn alloc(
+    image: &mut [u64],
+    roots: &mut [u64],
+    scratch: &mut [u64],
+    amount: i64,
+) -> Result<Allocation, Question>
     ensures { call (allocs roots.old (length scratch.old) (of_z w64 amount)) image.old ≡ alloc_outcome result image.new roots.new }
 {
-    match image::check(image) {
-        Ok(()) => alloc_formed(image, roots, scratch, amount),
-        Err(q) => Allocated::Refused(q.number()),
-    }
+    image::check(image)?;
+    alloc_formed(image, roots, scratch, amount)
 }

@@ -9,6 +9,9 @@ use lib.ListN.{length, get_or, drop, set as put}
 use mir.Syntax.{w64}
 use mir.Val.{SFits}
 use borrow.Author.Tests.{le-leb}
+use Rattle.std.proofs.Common.{Result, Ok, Err}
+use Rattle.question.specs.Question.{number}
+use Rattle.question.specs.declared.Question.{Question}
 use Rattle.model.specs.Res.{Res, ok, refuse, ◌>>=◌}
 use Rattle.model.specs.Records.{Ptr, ref, valid, all_valid, cell_words, whole_cells, whole}
 use Rattle.model.specs.Image.{encode, decode}
@@ -28,8 +31,6 @@ use Rattle.value.specs.declared.Value.TheVariants.{Pointer}
 use Rattle.value.specs.Value.{value_cell}
 use Rattle.collector.specs.Alloc.{alloc_outcome}
 use Rattle.collector.specs.declared.Allocation.{Allocation}
-use Rattle.collector.specs.declared.Allocated.{Allocated}
-use Rattle.collector.specs.declared.Allocated.TheVariants.{At, Refused}
 use Rattle.registers.specs.declared.Registers.{Registers}
 use Rattle.access.specs.Access.{pointer_of}
 use Rattle.registers.specs.Cells.{cells_of_registers, register_of, GoodValue, Good}
@@ -58,19 +59,19 @@ record Same (x : ModelAllocation) (a : Allocation) (v roots : List ℕ) : Type 0
   roots-are : roots ≡ cell_words x.roots
 
 module _ (w roots v roots' : List ℕ) where
-  same_answer_lem : {a : Allocation} (m : Res ModelAllocation) → allocated w roots m ≡ alloc_outcome (At a) v roots' → (x : ModelAllocation) × (m ≡ ok x) × Same x a v roots'
+  same_answer_lem : {a : Allocation} (m : Res ModelAllocation) → allocated w roots m ≡ alloc_outcome (Ok a) v roots' → (x : ModelAllocation) × (m ≡ ok x) × Same x a v roots'
   unfolding allocated alloc_outcome four_counts
   same_answer_lem (ok x) e =
       let words = ap (λ (o : Outcome). o.answer) e in
       (x, refl, record { pointer = sym (ap pointer_of_words words); counts = sym (ap counts_of words); image = sym (ap (λ (o : Outcome). o.image) e); roots-are = sym (ap (λ (o : Outcome). o.roots) e) })
   same_answer_lem (refuse q) e = absurd (refused-ok (ap (λ (o : Outcome). o.answer) e))
 
-  same-refusal : {q : ℕ} (m : Res ModelAllocation) → allocated w roots m ≡ alloc_outcome (Refused q) v roots' → (m ≡ refuse q) × (v ≡ w)
+  same-refusal : (q : Question) (m : Res ModelAllocation) → allocated w roots m ≡ alloc_outcome (Err q) v roots' → (m ≡ refuse (number q)) × (v ≡ w)
   unfolding allocated alloc_outcome
-  same-refusal (ok x) e = absurd (refused-ok (sym (ap (λ (o : Outcome). o.answer) e)))
-  same-refusal {q} (refuse p) e =
-      let answer : refuse p ≡ refuse q = ap (λ (o : Outcome). o.answer) e in
-      let same : p ≡ q = cc in
+  same-refusal q (ok x) e = absurd (refused-ok (sym (ap (λ (o : Outcome). o.answer) e)))
+  same-refusal q (refuse p) e =
+      let answer : refuse p ≡ refuse (number q) = ap (λ (o : Outcome). o.answer) e in
+      let same : p ≡ number q = cc in
       (ap refuse same, sym (ap (λ (o : Outcome). o.image) e))
 
 pub alloc-heapless : {w : List ℕ} {r r' : Registers} {a : Answer} (k amount : ℕ) → Held w → Good r → length w ≡ 0 → (a ≡ answer.Refused 14) × (r' ≡ r) → Acts (alloc k amount) w r a w r'
@@ -109,15 +110,15 @@ module _ {w : List ℕ} {r : Registers} {roots : List ℕ} {n : ℕ} (l : Lent w
       let back = words-in x.roots (valid-all x.roots told.roots-valid) in
       answers (rw (step_is k, gave, same.counts, same.image, heap-encoded fit, now, from, same.roots-are, back, same.pointer)) tt (rw same.image (held_after fit l.held l.there told.same_size)) good
 
-  module _ (o : Allocated) (v roots' : List ℕ) (e : allocated w roots (alloc_on (decode w) roots n amount) ≡ alloc_outcome o v roots') where
-    pub alloc-refused : {q : ℕ} {b : Answer} {r' : Registers} (k : ℕ) → o ≡ Refused q → (b ≡ answer.Refused q) × (r' ≡ r) → Acts (alloc k amount) w r b v r'
+  module _ (o : Result Allocation Question) (v roots' : List ℕ) (e : allocated w roots (alloc_on (decode w) roots n amount) ≡ alloc_outcome o v roots') where
+    pub alloc-refused : {q : Question} {b : Answer} {r' : Registers} (k : ℕ) → o ≡ Err q → (b ≡ answer.Refused (number q)) × (r' ≡ r) → Acts (alloc k amount) w r b v r'
     alloc-refused k f s =
-        let (no_answer, same) = same-refusal w roots v roots' _ (ap (allocated w roots) (sym all_asked) ∙ e ∙ ap (λ (x : Allocated). alloc_outcome x v roots') f) in
+        let (no_answer, same) = same-refusal w roots v roots' _ _ (ap (allocated w roots) (sym all_asked) ∙ e ∙ ap (λ (x : Result Allocation Question). alloc_outcome x v roots') f) in
         rw same (refuses l.held l.good (rw (step_is k, no_answer)) s)
 
-    module _ {a : Allocation} (f : o ≡ At a) where
+    module _ {a : Allocation} (f : o ≡ Ok a) where
       answered : (x : ModelAllocation) × (alloc_in (decode w) (cells_of_registers r) amount ≡ ok x) × Same x a v roots'
-      answered = same_answer_lem w roots v roots' _ (ap (allocated w roots) (sym all_asked) ∙ e ∙ ap (λ (x : Allocated). alloc_outcome x v roots') f)
+      answered = same_answer_lem w roots v roots' _ (ap (allocated w roots) (sym all_asked) ∙ e ∙ ap (λ (x : Result Allocation Question). alloc_outcome x v roots') f)
 
       told : Told ⊥ (decode w) (cells_of_registers r) answered.0
       told = (holds_at (alloc_told ⊥ (decode w) (cells_of_registers r) amount (fit-good (l.held.formed l.there).fit) (all_valid_lem (cells_of_registers r) valid_cells)) answered.1).0

@@ -20,7 +20,6 @@ ghost use Rattle.command.specs.Steps.{target_answer, target_in, is_new, Acts, Pe
 
 use access::{Loaded, Stored};
 pub use answers::Answer;
-use collector::Allocated;
 use reader::Command;
 use registers::Registers;
 use report::Reported;
@@ -104,7 +103,7 @@ fn alloc_in(
     }
     let mut roots = registers.words();
     match collector::alloc_formed(image, &mut roots, scratch, amount) {
-        Allocated::At(a) => {
+        Ok(a) => {
             let p = a.pointer;
             let moved = Registers::from_words(roots);
             Acted {
@@ -112,7 +111,7 @@ fn alloc_in(
                 registers: moved.set(register, Value::Pointer(p)),
             }
         }
-        Allocated::Refused(q) => refused(q, registers),
+        Err(q) => refused(q.number(), registers),
     }
 }
 

@@ -15,19 +15,17 @@ use Rattle.theorems.specs.Does.{Does}
 use Rattle.theorems.proofs.Does.{answered, does-then, does-refused, does-same}
 use Rattle.theorems.proofs.Res.{holds_at}
 use Rattle.fields.specs.Fields.{Reads}
-use Rattle.elder.specs.Steps.{swept_answer, collect_step}
-use Rattle.elder.specs.declared.Swept.TheVariants as swept
-use Rattle.nursery.specs.Steps.{collected_answer}
+use Rattle.std.proofs.Common.{Result, Ok, Err}
+use Rattle.question.specs.declared.Question.{Question}
+use Rattle.elder.specs.Steps.{collect_step}
 use Rattle.nursery.specs.declared.Collected.{Collected}
-use Rattle.nursery.specs.declared.Collected.TheVariants as collected
 use Rattle.cycle.specs.declared.turns.Request.{Request}
 use Rattle.cycle.specs.declared.turns.Request.TheVariants.{New, Move}
-use Rattle.cycle.specs.declared.turns.Outcome.{Outcome}
-use Rattle.cycle.specs.declared.turns.Outcome.TheVariants.{At, Refused}
+use Rattle.cycle.specs.declared.turns.Gave.{Gave}
 use Rattle.cycle.specs.Scratch.{old_list_at, parts_in, Front, SweptIn, CollectedIn}
 use Rattle.cycle.specs.Turns.{Turn, pick, give, give_in, too_large, must_collect, also_swept, sweep_and_give, again_turn, push_one, none, finished, collect_and_push, push_turn, turn}
-use Rattle.cycle.specs.Outcomes.{Asked, Ready, Ran, Gives, outcome_answer, gave_turn, swept_outcome, kept_to}
-use Rattle.cycle.proofs.Doing.{map_res, does-map}
+use Rattle.cycle.specs.Outcomes.{Asked, Ready, Ran, Gives, outcome_answer, gave_turn, swept_gave, kept_to}
+use Rattle.cycle.proofs.Doing.{map_res, map_gave, does-map}
 use Rattle.cycle.proofs.Frames.{young-same, parts_same, saved-same}
 use Rattle.cycle.proofs.Pushing.{Begun}
 use Rattle.cycle.proofs.Turning.{turn_last, push-collected, sweep-few}
@@ -43,12 +41,12 @@ module _ {w roots s : List ℕ} {what : Request} {left : ℕ} {done : Bool} (r :
   -- `alloc_or_collect`
 
   module _ {b : Bool} (m : Reads (must_collect what left done) w b) where
-    pub turned-push : (ms : List ℕ) {o : Outcome} {v x : List ℕ} → b ≡ true → Ran (push_turn (parts_in z s) (cells_in roots) ms what left done) left done w roots s o v x
+    pub turned-push : (ms : List ℕ) {o : Result Gave Question} {v x : List ℕ} → b ≡ true → Ran (push_turn (parts_in z s) (cells_in roots) ms what left done) left done w roots s o v x
         → Ran (turn (parts_in z s) (cells_in roots) ms what left done) left done w roots s o v x
     unfolding turn
     turned-push ms e d = record { does = does-same (λ h i. rw (m.reads h i ∙ e)) d.does; front = d.front }
 
-    pub turned-give : (ms : List ℕ) {o : Outcome} {v : List ℕ} → b ≡ false → Gives (give_in (parts_in z s) what left) w o v → Ran (turn (parts_in z s) (cells_in roots) ms what left done) left done w roots s o v s
+    pub turned-give : (ms : List ℕ) {o : Result Gave Question} {v : List ℕ} → b ≡ false → Gives (give_in (parts_in z s) what left) w o v → Ran (turn (parts_in z s) (cells_in roots) ms what left done) left done w roots s o v s
     unfolding turn
     turned-give ms e d = record { does = does-same (λ h i. rw (m.reads h i ∙ e)) (d.does z (length roots / 3) s); front = record { same = refl } }
 
@@ -72,7 +70,7 @@ module _ {w roots s : List ℕ} {what : Request} {left : ℕ} {done : Bool} (r :
 
   -- `collect_and_push_allocation`: it was collected
 
-  pub push-last : (ms : List ℕ) {o : Outcome} {v x : List ℕ} → done ≡ true → Ran (turn (parts_in z s) (cells_in roots) ms what 1 true) 1 true w roots s o v x
+  pub push-last : (ms : List ℕ) {o : Result Gave Question} {v x : List ℕ} → done ≡ true → Ran (turn (parts_in z s) (cells_in roots) ms what 1 true) 1 true w roots s o v x
       → Ran (push_turn (parts_in z s) (cells_in roots) ms what left done) left done w roots s o v x
   unfolding kept_to
   push-last ms e d = rw e (record { does = does-same (λ h i. turn_last (parts_in z s) (cells_in roots) ms what h ∙ sym (push-collected (parts_in z s) (cells_in roots) ms what h left)) d.does; front = d.front })
@@ -80,9 +78,8 @@ module _ {w roots s : List ℕ} {what : Request} {left : ℕ} {done : Bool} (r :
   -- the elder alone is left, and is collected first
 
   module _ (ms : List ℕ) (one : left ≡ 1) (is_first : done ≡ false) {u t : List ℕ} where
-    module _ {visits : ℕ} (c : SweptIn w roots ms s (swept.Done visits) u t) (long : length t ≡ length s) where
+    module _ {visits : ℕ} (c : SweptIn w roots ms s (Ok visits) u t) (long : length t ≡ length s) where
       first : (x : ℕ × Heap) × (collect_step (cells_in roots) ms (decode w) ≡ ok x) × (visits ≡ x.0) × (decode u ≡ x.1) × Image u (decode u)
-      unfolding swept_answer
       first = answered r.image c.does
 
       sizes : (decode u).size ≡ z
@@ -107,14 +104,14 @@ module _ {w roots s : List ℕ} {what : Request} {left : ℕ} {done : Bool} (r :
       then-give : ℕ → Heap → Res (Turn × Heap)
       then-give n h = give (parts_in z s) what h >>= λ x. ok (also_swept n x.0, x.1)
 
-      swept-is : (x : List ℕ) (o : Outcome) → map_res (also_swept visits) (outcome_answer z (length roots / 3) x o) ≡ outcome_answer z (length roots / 3) x (swept_outcome o visits)
-      unfolding also_swept outcome_answer gave_turn swept_outcome
-      swept-is x (At g) = refl
-      swept-is x (Refused q) = refl
+      swept-is : (x : List ℕ) (o : Result Gave Question) → map_res (also_swept visits) (outcome_answer z (length roots / 3) x o) ≡ outcome_answer z (length roots / 3) x (map_gave (λ g. swept_gave g visits) o)
+      unfolding also_swept gave_turn swept_gave
+      swept-is x (Ok g) = refl
+      swept-is x (Err q) = refl
 
-      pub push-swept : {o : Outcome} {v x : List ℕ} → Ran (turn (parts_in (decode u).size t) (cells_in roots) ms what 1 true) 1 true u roots t o v x
-          → Ran (push_turn (parts_in z s) (cells_in roots) ms what left done) left done w roots s (swept_outcome o visits) v x
-      unfolding push_turn sweep_and_give kept_to swept_answer then-give
+      pub push-swept : {o : Result Gave Question} {v x : List ℕ} → Ran (turn (parts_in (decode u).size t) (cells_in roots) ms what 1 true) 1 true u roots t o v x
+          → Ran (push_turn (parts_in z s) (cells_in roots) ms what left done) left done w roots s (map_gave (λ g. swept_gave g visits) o) v x
+      unfolding push_turn sweep_and_give kept_to then-give
       push-swept {o} {v} {x} d =
           let given : Does (give (parts_in z s) what) u (outcome_answer z (length roots / 3) x o) v =
           rw (← sizes) (does-same (λ h i. rw (sizes, parts_same c.front z (omega arith)) (turn_last (parts_in z s) (cells_in roots) ms what h)) d.does) in
@@ -122,13 +119,13 @@ module _ {w roots s : List ℕ} {what : Request} {left : ℕ} {done : Bool} (r :
           rw (one, is_first)
           (record { does = rw (← swept-is x o) (does-then then-give c.does (does-map (also_swept visits) given)); front = record { same = kept.same ∙ c.front.same } })
 
-    pub swept-refused : {q : ℕ} → SweptIn w roots ms s (swept.Refused q) u t → Ran (push_turn (parts_in z s) (cells_in roots) ms what left done) left done w roots s (Refused q) u t
-    unfolding push_turn sweep_and_give kept_to swept_answer outcome_answer
+    pub swept-refused : {q : Question} → SweptIn w roots ms s (Err q) u t → Ran (push_turn (parts_in z s) (cells_in roots) ms what left done) left done w roots s (Err q) u t
+    unfolding push_turn sweep_and_give kept_to
     swept-refused {q} c = rw (one, is_first) (record { does = does-refused (λ n h. give (parts_in z s) what h >>= λ x. ok (also_swept n x.0, x.1)) c.does; front = c.front })
 
   -- the nursery is not collected
-  pub nursery-refused : (ms : List ℕ) → left ≡ 2 → done ≡ false → {q : ℕ} {u t : List ℕ} → CollectedIn w roots s (collected.Refused q) u t → Ran (push_turn (parts_in z s) (cells_in roots) ms what left done) left done w roots s (Refused q) u t
-  unfolding push_turn collect_and_push kept_to collected_answer outcome_answer
+  pub nursery-refused : (ms : List ℕ) → left ≡ 2 → done ≡ false → {q : Question} {u t : List ℕ} → CollectedIn w roots s (Err q) u t → Ran (push_turn (parts_in z s) (cells_in roots) ms what left done) left done w roots s (Err q) u t
+  unfolding push_turn collect_and_push kept_to
   nursery-refused ms two is_first {q} {u} {t} c =
       rw (two, is_first)
       (record {
@@ -148,10 +145,10 @@ module _ {w roots s : List ℕ} {what : Request} {left : ℕ} {done : Bool} (r :
       go (suc (suc (suc k))) e a b = absurd (omega arith)
 
   module _ (n : left ≡ 1 → ⊥) (is_first : done ≡ false) where
-    pub begun : (c : Collected) {visits moved : ℕ} {u t : List ℕ} → c ≡ collected.Done visits moved → CollectedIn w roots s c u t → length t ≡ length s → Begun w roots s what visits moved u t
-    begun c e d l = record { ready = rw (two-left n, is_first) at r; collected = rw e at d; long = l }
+    pub begun : (r : Result Collected Question) {c : Collected} {u t : List ℕ} → r ≡ Ok c → CollectedIn w roots s r u t → length t ≡ length s → Begun w roots s what c u t
+    begun a e d l = record { ready = rw (two-left n, is_first) at r; collected = rw e at d; long = l }
 
-    pub at_first : (ms : List ℕ) {o : Outcome} {v x : List ℕ} → Ran (push_turn (parts_in z s) (cells_in roots) ms what 2 false) 2 false w roots s o v x
+    pub at_first : (ms : List ℕ) {o : Result Gave Question} {v x : List ℕ} → Ran (push_turn (parts_in z s) (cells_in roots) ms what 2 false) 2 false w roots s o v x
         → Ran (push_turn (parts_in z s) (cells_in roots) ms what left done) left done w roots s o v x
     at_first ms d = rw (two-left n, is_first) d
 

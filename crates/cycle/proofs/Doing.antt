@@ -2,6 +2,9 @@
 use mathlib.Core.Path.{◌≡◌, refl, sym, ap, ◌∙◌}
 use mathlib.Core.List.{List, [], ◌∷◌, ◌++◌}
 use Prim.Native.Nat.{ℕ}
+use Rattle.std.proofs.Common.{Result, Ok, Err}
+use Rattle.question.specs.declared.Question.{Question}
+use Rattle.cycle.specs.declared.turns.Gave.{Gave}
 use Rattle.model.specs.Res.{Res, ok, refuse, ◌>>=◌, each}
 use Rattle.model.specs.Heap.{Heap}
 use Rattle.theorems.specs.Does.{Meets, Does}
@@ -22,6 +25,11 @@ module _ {A B : Type 0} where
       go (ok x) (refuse q) k = absurd k
       go (refuse q) (ok a) k = absurd k
       go (refuse q) (refuse p) k = k
+
+-- what is given, made another thing
+abbrev pub map_gave : (Gave → Gave) → Result Gave Question → Result Gave Question
+map_gave f (Ok g) = Ok (f g)
+map_gave f (Err q) = Err q
 
 -- a list of steps, each on what the ones before left
 

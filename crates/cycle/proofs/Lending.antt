@@ -5,6 +5,7 @@ use mathlib.Core.List.{List}
 use Prim.Native.Nat.{ℕ, ◌+◌, ◌-◌, ◌*◌, ◌/◌, ◌≤◌, ◌<◌}
 use native.Mathlib.Omega.{arith}
 use lib.ListN.{length, get_or, take, drop, length-take, length-drop}
+use Rattle.std.proofs.Common.{Result}
 use Rattle.model.specs.Res.{Res}
 use Rattle.model.specs.Records.{cell_words, all_valid, whole_cells}
 use Rattle.model.specs.Barrier.{Barrier, masks}
@@ -23,9 +24,10 @@ use Rattle.slots.proofs.Parts.{lent, returned, lent_length, returned-is, take_pu
 use Rattle.layout.specs.Places.{Laid}
 use Rattle.layout.specs.declared.places.Layout.{Layout}
 use Rattle.fields.specs.Fields.{Reads}
-use Rattle.elder.specs.Steps.{swept_answer, place_step}
+use Rattle.question.specs.Question.{number_answer}
+use Rattle.question.specs.declared.Question.{Question}
+use Rattle.elder.specs.Steps.{place_step}
 use Rattle.elder.specs.Steps as elder
-use Rattle.elder.specs.declared.Swept.{Swept}
 use Rattle.nursery.specs.Steps.{collected_answer}
 use Rattle.nursery.specs.Steps as nursery
 use Rattle.nursery.specs.declared.Collected.{Collected}
@@ -69,7 +71,7 @@ module _ {w : List ℕ} (i : Image w (decode w)) (roots s : List ℕ) (room : sc
     pub old-list-long : 3 * (r + (sizes w).s + (sizes w).c) ≤ length (lent at s)
     old-list-long = omega (arith, lists-room, lent_length s at inside)
 
-    pub swept-in : {ms v : List ℕ} {answer : Swept} (ys : List ℕ) → Does (elder.collect_step (cells_in roots) ms) w (swept_answer answer) v → SweptIn w roots ms s answer v (returned at s ys)
+    pub swept-in : {ms v : List ℕ} {answer : Result ℕ Question} (ys : List ℕ) → Does (elder.collect_step (cells_in roots) ms) w (number_answer answer) v → SweptIn w roots ms s answer v (returned at s ys)
     swept-in ys d = record { does = d; front = front-put s ys inside e }
 
   -- `collect_nursery`
@@ -80,7 +82,7 @@ module _ {w : List ℕ} (i : Image w (decode w)) (roots s : List ℕ) (room : sc
   pub young-list-long : 3 * (r + 2 * (sizes w).n) ≤ length (lent (length w) s)
   young-list-long = omega (arith, image-long i, lists-room, lent_length s (length w) image-inside)
 
-  pub collected-in : {ms v : List ℕ} {b : Barrier} {answer : Collected} (ys : List ℕ) → Reads (λ h. h.old.bar) w b → ms ≡ masks b
+  pub collected-in : {ms v : List ℕ} {b : Barrier} {answer : Result Collected Question} (ys : List ℕ) → Reads (λ h. h.old.bar) w b → ms ≡ masks b
       → Does (nursery.collect_step (cells_in roots) ms) w (collected_answer answer ys) v → CollectedIn w roots s answer v (returned (length w) s ys)
   collected-in {ms} {v} {b} {answer} ys bar e d =
       let list : drop (length w) (returned (length w) s ys) ≡ ys = rw (returned-is s (length w) image-inside ys) (drop-put s (length w) image-inside ys) in

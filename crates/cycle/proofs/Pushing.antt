@@ -24,20 +24,20 @@ use Rattle.trace.proofs.Entries.{tab-cons, length-members}
 use Rattle.trace.proofs.Places.{in-length}
 use Rattle.survivors.proofs.Entries.{tab-append}
 use Rattle.fields.proofs.Parts.{sized-in}
-use Rattle.nursery.specs.Steps.{collected_answer}
 use Rattle.nursery.specs.Steps as nursery
-use Rattle.nursery.specs.declared.Collected.TheVariants.{Done}
+use Rattle.nursery.specs.declared.Collected.{Collected}
+use Rattle.question.specs.Question.{number}
+use Rattle.question.specs.declared.Question.{Question}
+use Rattle.std.proofs.Common.{Result, Ok, Err}
 use Rattle.pointers.specs.Steps.{move_at, moves_in}
 use Rattle.cycle.specs.declared.turns.Request.{Request}
 use Rattle.cycle.specs.declared.turns.Request.TheVariants.{New, Move}
 use Rattle.cycle.specs.declared.turns.Gave.{Gave}
 use Rattle.cycle.specs.declared.turns.Tally.{Tally}
-use Rattle.cycle.specs.declared.turns.Outcome.{Outcome}
-use Rattle.cycle.specs.declared.turns.Outcome.TheVariants.{At, Refused}
 use Rattle.cycle.specs.Scratch.{bases_at, old_list_at, parts_in, Saved, Front, CollectedIn}
 use Rattle.cycle.specs.Turns.{Turn, Pushed, none, noted, finished, push_one, elder_turn, again_turn, collect_and_push, push_turn, turn}
-use Rattle.cycle.specs.Outcomes.{Asked, Ready, Ran, outcome_answer, gave_turn, finished_outcome, kept_to}
-use Rattle.cycle.proofs.Doing.{map_res, does-map, does-none, does-more, does-stop}
+use Rattle.cycle.specs.Outcomes.{Asked, Ready, Ran, outcome_answer, gave_turn, finished_gave, kept_to}
+use Rattle.cycle.proofs.Doing.{map_res, map_gave, does-map, does-none, does-more, does-stop}
 use Rattle.cycle.proofs.Frames.{front_less, word_same, young-same, parts_same, saved-same, moves-same, members-more, moves_more}
 use Rattle.cycle.proofs.Turning.{Small, elder-small, turn-elder, turn-again, Survive, Survived, collected-survive}
 
@@ -62,9 +62,9 @@ members-split n w i l =
     ap (tab (ptr_at w) 0) e ∙ tab-append (ptr_at w) 0 i (n - i) ∙ rw (zero-add, tab-cons (ptr_at w) i n l)
 
 -- the nursery was collected: u is the image then, t scratch
-pub record Begun (w roots s : List ℕ) (what : Request) (visits moved : ℕ) (u t : List ℕ) : Type 0 where
+pub record Begun (w roots s : List ℕ) (what : Request) (c : Collected) (u t : List ℕ) : Type 0 where
   pub ready : Ready w roots s what 2 false
-  pub collected : CollectedIn w roots s (Done visits moved) u t
+  pub collected : CollectedIn w roots s (Ok c) u t
   pub long : length t ≡ length s
 
 -- i survivors were pushed: v is the image now, x scratch
@@ -79,7 +79,13 @@ pub record Pushing (w roots ms s : List ℕ) (moved : ℕ) (u t v x : List ℕ) 
   pub sweeps : tally.sweeps ≤ i
   pub entered : tally.entered ≤ i * (length roots / 3 + (decode w).size.s + (decode w).size.c)
 
-module _ {w roots s : List ℕ} {what : Request} {visits moved : ℕ} {u t : List ℕ} (b : Begun w roots s what visits moved u t) where
+module _ {w roots s : List ℕ} {what : Request} {c : Collected} {u t : List ℕ} (b : Begun w roots s what c u t) where
+  abbrev moved : ℕ
+  moved = c.survivors
+
+  abbrev visits : ℕ
+  visits = c.visits
+
   abbrev z : Sizes
   z = (decode w).size
 
@@ -87,7 +93,6 @@ module _ {w roots s : List ℕ} {what : Request} {visits moved : ℕ} {u t : Lis
   survivors_in = members moved (drop (image_length z) t)
 
   first : (x : (ℕ × List Ptr) × Heap) × (nursery.collect_step (cells_in roots) (masks (decode w).old.bar) (decode w) ≡ ok x) × ((visits, survivors_in) ≡ x.0) × (decode u ≡ x.1) × Image u (decode u)
-  unfolding collected_answer
   first = answered b.ready.image b.collected.does
 
   told : Survived (decode w) (length (cells_in roots)) first.0
@@ -139,7 +144,7 @@ module _ {w roots s : List ℕ} {what : Request} {visits moved : ℕ} {u t : Lis
   then-again ms m h = again_turn (parts_in z s) (cells_in roots) ms what h >>= λ y. ok (finished visits m y.0, y.1)
 
   then-push : List ℕ → ℕ × List Ptr → Heap → Res (Turn × Heap)
-  then-push ms c h = each (push_one (parts_in z s) (cells_in roots) ms) c.1 (none, h) >>= λ m. again_turn (parts_in z s) (cells_in roots) ms what m.1 >>= λ y. ok (finished c.0 m.0 y.0, y.1)
+  then-push ms k h = each (push_one (parts_in z s) (cells_in roots) ms) k.1 (none, h) >>= λ m. again_turn (parts_in z s) (cells_in roots) ms what m.1 >>= λ y. ok (finished k.0 m.0 y.0, y.1)
 
   module _ {ms v x : List ℕ} {tally : Tally} {i : ℕ} (p : Pushing w roots ms s moved u t v x tally i) where
     length-is : length v ≡ image_length z
@@ -180,7 +185,7 @@ module _ {w roots s : List ℕ} {what : Request} {visits moved : ℕ} {u t : Lis
       }
 
       -- its turn
-      module _ {o : Outcome} {v' x' : List ℕ} (d : Ran (turn (parts_in (decode v).size x) (cells_in roots) ms (Move (get_or x (length v + (3 * i + 1)) 0)) 1 false) 1 false v roots x o v' x') (long' : length x' ≡ length x) where
+      module _ {o : Result Gave Question} {v' x' : List ℕ} (d : Ran (turn (parts_in (decode v).size x) (cells_in roots) ms (Move (get_or x (length v + (3 * i + 1)) 0)) 1 false) 1 false v roots x o v' x') (long' : length x' ≡ length x) where
         pushed : Does (elder_turn (parts_in z s) (cells_in roots) ms (Move next.base)) v (outcome_answer z (length roots / 3) x' o) v'
         pushed =
             rw (← p.sizes)
@@ -191,14 +196,14 @@ module _ {w roots s : List ℕ} {what : Request} {visits moved : ℕ} {u t : Lis
         kept = rw (← p.sizes) d.front
 
         -- refused: so is the whole list
-        pub pushing-stop : (q : ℕ) → o ≡ Refused q → Does (λ h. each (push_one (parts_in z s) (cells_in roots) ms) survivors_in (none, h)) u (refuse q) v'
-        unfolding push_one outcome_answer
+        pub pushing-stop : (q : Question) → o ≡ Err q → Does (λ h. each (push_one (parts_in z s) (cells_in roots) ms) survivors_in (none, h)) u (refuse (number q)) v'
+        unfolding push_one
         pushing-stop q e =
             rw (members-split moved (drop (image_length z) t) i more)
             (does-stop (push_one (parts_in z s) (cells_in roots) ms) none (members i (drop (image_length z) t)) p.does next (tab (ptr_at (drop (image_length z) t)) (i + 1) (moved - (i + 1))) (does-map (λ y. noted next y (pushed_in z (length roots / 3) i x tally)) (rw e at pushed)))
 
-        pub pushing-refused : (q : ℕ) → o ≡ Refused q → Ran (push_turn (parts_in z s) (cells_in roots) ms what 2 false) 2 false w roots s o v' x'
-        unfolding push_turn collect_and_push kept_to collected_answer then-push then-again outcome_answer
+        pub pushing-refused : (q : Question) → o ≡ Err q → Ran (push_turn (parts_in z s) (cells_in roots) ms what 2 false) 2 false w roots s o v' x'
+        unfolding push_turn collect_and_push kept_to then-push then-again
         pushing-refused q e =
             record {
               does = rw e (does-then (then-push ms) b.collected.does (does-refused (then-again ms) {v = v'} (pushing-stop q e)));
@@ -206,9 +211,8 @@ module _ {w roots s : List ℕ} {what : Request} {visits moved : ℕ} {u t : Lis
             }
 
         -- answered
-        module _ (g : Gave) (e : o ≡ At g) where
+        module _ (g : Gave) (e : o ≡ Ok g) where
           went : (y : Turn × Heap) × (elder_turn (parts_in z s) (cells_in roots) ms (Move next.base) (decode v) ≡ ok y) × (gave_turn z (length roots / 3) x' g ≡ y.0) × (decode v' ≡ y.1) × Image v' (decode v')
-          unfolding outcome_answer
           went = answered p.image (rw e at pushed)
 
           small : Small (decode v) (length (cells_in roots)) went.0
@@ -266,7 +270,7 @@ module _ {w roots s : List ℕ} {what : Request} {visits moved : ℕ} {u t : Lis
             pushed_more = λ k. record { moves = moved_more k; sweeps = sym counts.0 k; entered = sym counts.1 k }
 
             pub pushing-more : Pushing w roots ms s moved u t v' x'' tally' (i + 1)
-            unfolding push_one outcome_answer
+            unfolding push_one
             pushing-more = record {
               few = omega arith;
               image = went.4;
@@ -297,7 +301,7 @@ module _ {w roots s : List ℕ} {what : Request} {visits moved : ℕ} {u t : Lis
           asked-now (New a) k = k
           asked-now (Move c) k = rw (p.sizes, young-same p.front z (omega arith)) k
 
-      module _ {o : Outcome} {v' x' : List ℕ} (d : Ran (turn (parts_in (decode v).size x) (cells_in roots) ms what 2 true) 2 true v roots x o v' x') where
+      module _ {o : Result Gave Question} {v' x' : List ℕ} (d : Ran (turn (parts_in (decode v).size x) (cells_in roots) ms what 2 true) 2 true v roots x o v' x') where
         again : Does (again_turn (parts_in z s) (cells_in roots) ms what) v (outcome_answer z (length roots / 3) x' o) v'
         again = rw (← p.sizes) (does-same (λ h k. rw (p.sizes, parts_same p.front z (omega arith)) (turn-again (parts_in z s) (cells_in roots) ms what h)) d.does)
 
@@ -310,13 +314,13 @@ module _ {w roots s : List ℕ} {what : Request} {visits moved : ℕ} {u t : Lis
             sym (moves-same moved (drop (image_length z) x') (drop (image_length z) x) (λ j l. get_or-drop (image_length z) x' j 0 ∙ word_same kept_again (image_length z + j) (omega (arith, few-moved)) ∙ sym (get_or-drop (image_length z) x j 0))
             (drop (bases_at z (length roots / 3)) x') (drop (bases_at z (length roots / 3)) x) (λ j l. get_or-drop (bases_at z (length roots / 3)) x' j 0 ∙ word_same kept_again (bases_at z (length roots / 3) + j) (omega (arith, few-moved)) ∙ sym (get_or-drop (bases_at z (length roots / 3)) x j 0)))
 
-        finished-is : (q : Outcome) → map_res (finished visits (pushed_in z (length roots / 3) moved x tally)) (outcome_answer z (length roots / 3) x' q) ≡ outcome_answer z (length roots / 3) x' (finished_outcome q visits moved tally)
-        unfolding finished pushed_in outcome_answer gave_turn finished_outcome
-        finished-is (At g) = λ k. ok (record { ptr = whole g.heap g.base; visits = visits; moves = moves-kept k; sweeps = tally.sweeps; entered = tally.entered })
-        finished-is (Refused q) = refl
+        finished-is : (q : Result Gave Question) → map_res (finished visits (pushed_in z (length roots / 3) moved x tally)) (outcome_answer z (length roots / 3) x' q) ≡ outcome_answer z (length roots / 3) x' (map_gave (λ g. finished_gave g c tally) q)
+        unfolding finished pushed_in gave_turn finished_gave
+        finished-is (Ok g) = λ k. ok (record { ptr = whole g.heap g.base; visits = visits; moves = moves-kept k; sweeps = tally.sweeps; entered = tally.entered })
+        finished-is (Err q) = refl
 
-        pub pushing-done : Ran (push_turn (parts_in z s) (cells_in roots) ms what 2 false) 2 false w roots s (finished_outcome o visits moved tally) v' x'
-        unfolding push_turn collect_and_push kept_to collected_answer then-push then-again
+        pub pushing-done : Ran (push_turn (parts_in z s) (cells_in roots) ms what 2 false) 2 false w roots s (map_gave (λ g. finished_gave g c tally) o) v' x'
+        unfolding push_turn collect_and_push kept_to then-push then-again
         pushing-done =
             let e : i ≡ moved = omega (arith, p.few) in
             record {

@@ -1,5 +1,5 @@
 -- The parts of scratch, and what stands in them.
-use Rattle.std.specs.Prelude.{◌≡◌, true, List, ℕ, ◌+◌, ◌*◌, ◌/◌, ◌≤◌, ◌<◌, length, get_or, take, drop}
+use Rattle.std.specs.Prelude.{◌≡◌, true, Result, List, ℕ, ◌+◌, ◌*◌, ◌/◌, ◌≤◌, ◌<◌, length, get_or, take, drop}
 use Rattle.model.specs.Records.{Cell, whole_cells}
 use Rattle.model.specs.Barrier.{absent, masks}
 use Rattle.model.specs.Heap.{Nursery, Sizes, part}
@@ -7,9 +7,9 @@ use Rattle.model.specs.Image.{image_length, decode}
 use Rattle.model.specs.Calls.{cells_in}
 use Rattle.theorems.specs.Does.{Does}
 use Rattle.image.specs.Places.{lengths_at, young_cells_at}
-use Rattle.elder.specs.Steps.{swept_answer}
+use Rattle.question.specs.Question.{number_answer}
+use Rattle.question.specs.declared.Question.{Question}
 use Rattle.elder.specs.Steps as elder
-use Rattle.elder.specs.declared.Swept.{Swept}
 use Rattle.nursery.specs.Steps.{collected_answer}
 use Rattle.nursery.specs.Steps as nursery
 use Rattle.nursery.specs.declared.Collected.{Collected}
@@ -40,11 +40,11 @@ pub record Front (k : ℕ) (s s' : List ℕ) : Type 0 where
   pub same : take k s' ≡ take k s
 
 -- a collection of the elder writes behind the other parts
-pub record SweptIn (w roots masks s : List ℕ) (r : Swept) (v s' : List ℕ) : Type 0 where
-  pub does : Does (elder.collect_step (cells_in roots) masks) w (swept_answer r) v
+pub record SweptIn (w roots masks s : List ℕ) (r : Result ℕ Question) (v s' : List ℕ) : Type 0 where
+  pub does : Does (elder.collect_step (cells_in roots) masks) w (number_answer r) v
   pub front : Front (old_list_at (decode w).size (length roots / 3)) s s'
 
 -- a collection of the nursery writes behind the image; the masks are those of this moment
-pub record CollectedIn (w roots s : List ℕ) (r : Collected) (v s' : List ℕ) : Type 0 where
+pub record CollectedIn (w roots s : List ℕ) (r : Result Collected Question) (v s' : List ℕ) : Type 0 where
   pub does : Does (λ h. nursery.collect_step (cells_in roots) (masks h.old.bar) h) w (collected_answer r (drop (image_length (decode w).size) s')) v
   pub front : Front (image_length (decode w).size) s s'

@@ -13,9 +13,8 @@ ghost use Rattle.cycle.specs.Scratch.{parts_in};
 ghost use Rattle.cycle.specs.Turns.{turn, push_turn};
 ghost use Rattle.cycle.specs.Outcomes.{Ready, Ran};
 
-use elder::Swept;
-use nursery::Collected;
-use turns::{Outcome, Request, Tally};
+use question::Question;
+use turns::{Gave, Request, Tally};
 
 #[cycle(alloc_or_collect_collect_and_push_allocation)]
 pub fn alloc_or_collect(
@@ -26,7 +25,7 @@ pub fn alloc_or_collect(
     what: Request,
     left: u64,
     collected: bool,
-) -> Outcome
+) -> Result<Gave, Question>
     requires { Ready image.old roots.now scratch.old what left collected }
     ensures { Ran (turn (parts_in (decode image.old).size scratch.old) (cells_in roots.now) masks.now what left collected) left collected image.old roots.now scratch.old result image.new scratch.new }
 {
@@ -45,7 +44,7 @@ pub fn collect_and_push_allocation(
     what: Request,
     left: u64,
     collected: bool,
-) -> Outcome
+) -> Result<Gave, Question>
     requires ready { Ready image.old roots.now scratch.old what left collected }
     requires collected_value { left ≡ 1 → collected ≡ false }
     ensures { Ran (push_turn (parts_in (decode image.old).size scratch.old) (cells_in roots.now) masks.now what left collected) left collected image.old roots.now scratch.old result image.new scratch.new }
@@ -54,45 +53,17 @@ pub fn collect_and_push_allocation(
         return alloc_or_collect(image, roots, masks, scratch, what, 1, true);
     }
     if left == 1 {
-        let s = scratch::sweep(image, roots, masks, scratch);
-        match s {
-            Swept::Done(visits) => {
-                let o = alloc_or_collect(image, roots, masks, scratch, what, 1, true);
-                return turns::also_swept(o, visits);
-            }
-            Swept::Refused(q) => {
-                return Outcome::Refused(q);
-            }
-        }
+        let visits = scratch::sweep(image, roots, masks, scratch)?;
+        let g = alloc_or_collect(image, roots, masks, scratch, what, 1, true)?;
+        return Ok(g.also_swept(visits));
     }
-    let c = scratch::collect_nursery(image, roots, scratch);
-    match c {
-        Collected::Done(visits, moved) => {
-            let mut tally = Tally {
-                sweeps: 0,
-                entered: 0,
-            };
-            let mut i = 0;
-            while i < moved {
-                let base = scratch::survivor(scratch, image.len(), i);
-                let o = alloc_or_collect(
-                    image,
-                    roots,
-                    masks,
-                    scratch,
-                    Request::Move(base),
-                    1,
-                    false,
-                );
-                let Outcome::At(g) = o else {
-                    return o;
-                };
-                tally = turns::note(image, roots, scratch, i, tally, g);
-                i += 1;
-            }
-            let o = alloc_or_collect(image, roots, masks, scratch, what, 2, true);
-            turns::finished(o, visits, moved, tally)
-        }
-        Collected::Refused(q) => Outcome::Refused(q),
+    let c = scratch::collect_nursery(image, roots, scratch)?;
+    let mut tally = Tally::default();
+    for i in 0..c.survivors {
+        let base = scratch::survivor(scratch, image.len(), i);
+        let g = alloc_or_collect(image, roots, masks, scratch, Request::Move(base), 1, false)?;
+        tally = turns::note(image, roots, scratch, i, tally, g);
     }
+    let g = alloc_or_collect(image, roots, masks, scratch, what, 2, true)?;
+    Ok(g.finished(c, tally))
 }

@@ -5,13 +5,14 @@ ghost use Rattle.model.specs.Image.{decode};
 ghost use Rattle.model.specs.Calls.{scratch_length};
 ghost use Rattle.theorems.specs.Fit.{Image};
 ghost use Rattle.theorems.specs.Does.{Does};
-ghost use Rattle.elder.specs.Steps.{placed_answer, place_step};
+ghost use Rattle.question.specs.Question.{number_answer};
+ghost use Rattle.elder.specs.Steps.{place_step};
 ghost use Rattle.cycle.specs.Scratch.{bases_at, old_list_at, young_in, parts_in, Saved, SweptIn, CollectedIn};
 
 use barrier::masks::Masks;
-use elder::Swept;
 use layout::places;
 use nursery::Collected;
+use question::Question;
 
 // Where the new bases stand.
 pub fn bases_at(image: &[u64], roots: &[u64]) -> usize
@@ -42,7 +43,12 @@ pub fn survivor(scratch: &[u64], at: usize, i: usize) -> u64
 }
 
 // A collection of the elder, its members listed at the end of scratch.
-pub fn sweep(image: &mut [u64], roots: &[u64], masks: &[u64], scratch: &mut [u64]) -> Swept
+pub fn sweep(
+    image: &mut [u64],
+    roots: &[u64],
+    masks: &[u64],
+    scratch: &mut [u64],
+) -> Result<u64, Question>
     requires image { Image image.old (decode image.old) }
     requires roots_in_bounds { scratch_length (decode image.old).size (length roots.now / 3) ≤ length scratch.old }
     ensures { SweptIn image.old roots.now masks.now scratch.old result image.new scratch.new }
@@ -52,7 +58,11 @@ pub fn sweep(image: &mut [u64], roots: &[u64], masks: &[u64], scratch: &mut [u64
 }
 
 // A collection of the nursery, with the masks of this moment, its survivors listed behind the saved image.
-pub fn collect_nursery(image: &mut [u64], roots: &[u64], scratch: &mut [u64]) -> Collected
+pub fn collect_nursery(
+    image: &mut [u64],
+    roots: &[u64],
+    scratch: &mut [u64],
+) -> Result<Collected, Question>
     requires image { Image image.old (decode image.old) }
     requires roots_in_bounds { scratch_length (decode image.old).size (length roots.now / 3) ≤ length scratch.old }
     ensures { CollectedIn image.old roots.now scratch.old result image.new scratch.new }
@@ -63,11 +73,11 @@ pub fn collect_nursery(image: &mut [u64], roots: &[u64], scratch: &mut [u64]) ->
 }
 
 // The saved allocation at base moved to the elder.
-pub fn place_part(image: &mut [u64], scratch: &[u64], base: u64) -> elder::Placed
+pub fn place_part(image: &mut [u64], scratch: &[u64], base: u64) -> Result<u64, Question>
     requires image { Image image.old (decode image.old) }
     requires saved { Saved (decode image.old).size scratch.now }
     requires nonzero { 0 < get_or (young_in (decode image.old).size scratch.now).lens base 0 }
-    ensures { Does (place_step (parts_in (decode image.old).size scratch.now base)) image.old (placed_answer result) image.new }
+    ensures { Does (place_step (parts_in (decode image.old).size scratch.now base)) image.old (number_answer result) image.new }
 {
     let l = places::layout_of(image);
     let lens = l.lens;

@@ -1,14 +1,15 @@
 // One turn of the cycle: what is asked of a generation, and what it gave.
-ghost use Rattle.std.specs.Prelude.{◌≡◌, true, false, ◌+◌, ◌-◌, ◌*◌, ◌/◌, ◌^◌, ◌≤◌, ◌<◌, length, set};
+ghost use Rattle.std.specs.Prelude.{Ok, ◌≡◌, true, false, ◌+◌, ◌-◌, ◌*◌, ◌/◌, ◌^◌, ◌≤◌, ◌<◌, length, set};
 ghost use Rattle.model.specs.Image.{decode};
 ghost use Rattle.theorems.specs.Fit.{Image};
 ghost use Rattle.fields.specs.Fields.{Reads};
 ghost use Rattle.cycle.specs.Scratch.{bases_at, old_list_at, Saved, parts_in};
 ghost use Rattle.cycle.specs.Turns.{bumped, must_collect, give_in};
-ghost use Rattle.cycle.specs.Outcomes.{Asked, Gives, gave_at, placed_outcome, swept_outcome, finished_outcome};
+ghost use Rattle.cycle.specs.Outcomes.{Asked, Gives, gave_at, swept_gave, finished_gave};
 
 use crate::scratch;
-use elder::Placed;
+use nursery::Collected;
+use question::Question;
 
 // A new array of so many cells, or the nursery's allocation at a base moved.
 #[derive(Clone, Copy)]
@@ -18,7 +19,7 @@ pub enum Request {
 }
 
 // Where it went; how many pointers were moved for it, the nursery's visits; the elder's collections, and what they entered.
-#[derive(Clone, Copy)]
+#[derive(Clone, Copy, Default)]
 pub struct Gave {
     pub heap: u8,
     pub base: u64,
@@ -28,18 +29,48 @@ pub struct Gave {
     pub entered: u64,
 }
 
-// Refused has the number of the question that got a no.
-#[derive(Clone, Copy)]
-pub enum Outcome {
-    At(Gave),
-    Refused(u64),
-}
-
 // The elder's collections for the survivors so far, and what they entered.
-#[derive(Clone, Copy)]
+#[derive(Clone, Copy, Default)]
 pub struct Tally {
     pub sweeps: u64,
     pub entered: u64,
+}
+
+impl Gave {
+    // Without a collection.
+    fn at(heap: u8, base: u64) -> Gave
+        ensures { result ≡ gave_at heap base }
+    {
+        Gave {
+            heap,
+            base,
+            ..Gave::default()
+        }
+    }
+
+    // With a collection of the elder before it, of so many visits.
+    pub fn also_swept(self, visits: u64) -> Gave
+        ensures { result ≡ swept_gave self visits }
+    {
+        Gave {
+            sweeps: 1,
+            entered: visits,
+            ..self
+        }
+    }
+
+    // With a collection of the nursery before it.
+    pub fn finished(self, c: Collected, tally: Tally) -> Gave
+        ensures { result ≡ finished_gave self c tally }
+    {
+        Gave {
+            moved: c.survivors,
+            visits: c.visits,
+            sweeps: tally.sweeps,
+            entered: tally.entered,
+            ..self
+        }
+    }
 }
 
 // Has the generation to be collected before it can give?
@@ -59,41 +90,23 @@ pub fn must_collect(image: &[u64], what: Request, left: u64, collected: bool) ->
     }
 }
 
-fn given(heap: u8, base: u64) -> Gave
-    ensures { result ≡ gave_at heap base }
-{
-    Gave {
-        heap,
-        base,
-        moved: 0,
-        visits: 0,
-        sweeps: 0,
-        entered: 0,
-    }
-}
-
-// What the elder placed.
-fn in_elder(p: Placed) -> Outcome
-    ensures { result ≡ placed_outcome p }
-{
-    match p {
-        Placed::At(base) => Outcome::At(given(1, base)),
-        Placed::Refused(q) => Outcome::Refused(q),
-    }
-}
-
-fn bump(image: &mut [u64], amount: u64) -> Outcome
+fn bump(image: &mut [u64], amount: u64) -> Gave
     requires image { Image image.old (decode image.old) }
     requires amount_nonzero { (0 < amount) × (amount < (decode image.old).size.n - (decode image.old).young.cursor) }
-    ensures { Gives (bumped amount) image.old result image.new }
+    ensures { Gives (bumped amount) image.old (Ok result) image.new }
 {
     let base = fields::cursor(image);
     fields::bump(image, amount);
-    Outcome::At(given(0, base))
+    Gave::at(0, base)
 }
 
 // The generation gives, where it need not be collected before. A move always goes to the elder.
-pub fn give_in(image: &mut [u64], scratch: &[u64], what: Request, left: u64) -> Outcome
+pub fn give_in(
+    image: &mut [u64],
+    scratch: &[u64],
+    what: Request,
+    left: u64,
+) -> Result<Gave, Question>
     requires image { Image image.old (decode image.old) }
     requires saved { Saved (decode image.old).size scratch.now }
     requires asked { Asked what (decode image.old).size scratch.now }
@@ -103,45 +116,11 @@ pub fn give_in(image: &mut [u64], scratch: &[u64], what: Request, left: u64) -> 
     match what {
         Request::New(amount) => {
             if left == 1 {
-                return in_elder(elder::place_new(image, amount));
+                return Ok(Gave::at(1, elder::place_new(image, amount)?));
             }
-            bump(image, amount)
+            Ok(bump(image, amount))
         }
-        Request::Move(base) => in_elder(scratch::place_part(image, scratch, base)),
-    }
-}
-
-// With a collection of the elder before it, of so many visits.
-pub fn also_swept(o: Outcome, visits: u64) -> Outcome
-    ensures { result ≡ swept_outcome o visits }
-{
-    match o {
-        Outcome::At(g) => Outcome::At(Gave {
-            heap: g.heap,
-            base: g.base,
-            moved: g.moved,
-            visits: g.visits,
-            sweeps: 1,
-            entered: visits,
-        }),
-        Outcome::Refused(q) => Outcome::Refused(q),
-    }
-}
-
-// With a collection of the nursery before it.
-pub fn finished(o: Outcome, visits: u64, moved: usize, tally: Tally) -> Outcome
-    ensures { result ≡ finished_outcome o visits moved tally }
-{
-    match o {
-        Outcome::At(g) => Outcome::At(Gave {
-            heap: g.heap,
-            base: g.base,
-            moved,
-            visits,
-            sweeps: tally.sweeps,
-            entered: tally.entered,
-        }),
-        Outcome::Refused(q) => Outcome::Refused(q),
+        Request::Move(base) => Ok(Gave::at(1, scratch::place_part(image, scratch, base)?)),
     }
 }
 

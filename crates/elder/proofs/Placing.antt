@@ -31,8 +31,7 @@ use Rattle.layout.specs.Elder.{with_slots, Turned, fit_answer, fit_for}
 use Rattle.layout.specs.declared.Fit.{Fit}
 use Rattle.layout.specs.declared.Fit.TheVariants as fit
 use Rattle.fields.specs.Fields.{Reads, Turns, on_old, with_old_bar}
-use Rattle.elder.specs.Steps.{placed_answer, count_step, place_step, blank_step}
-use Rattle.elder.specs.declared.Placed.TheVariants.{At, Refused}
+use Rattle.elder.specs.Steps.{count_step, place_step, blank_step}
 
 -- `count_in`
 
@@ -120,8 +119,8 @@ module _ (src : List ℕ) (g : whole_cells src ≡ true) (w : List ℕ) (r : Fit
   asked : fit_answer r ≡ fit_for (length cells) (decode w)
   asked = rw (in-length src) e
 
-  pub place_none : {v : List ℕ} → r ≡ fit.No → Does (place_step cells) w (placed_answer (Refused 7)) v
-  unfolding place_step place placed_answer
+  pub place_none : {v : List ℕ} → r ≡ fit.No → Does (place_step cells) w (refuse 7) v
+  unfolding place_step place
   place_none a = put-none (length cells) cells w r asked a
 
   module _ {b : ℕ} (a : r ≡ fit.At b) {u : List ℕ} (c : Result (Unit {0}) Question) (d : Does (count_step cells) w (done_answer c) u) where
@@ -131,12 +130,12 @@ module _ (src : List ℕ) (g : whole_cells src ≡ true) (w : List ℕ) (r : Fit
           let (j, k) = still-room (length src / 3) cells w r e a i (rw f at d) in
           (j, ((omega (arith, in-length src, whole_length src g), g), k))
 
-      pub place-done : {v : List ℕ} → Turned (λ ss. set ss b cells) u v → Does (place_step cells) w (placed_answer (At b)) v
-      unfolding place_step place placed_answer
+      pub place-done : {v : List ℕ} → Turned (λ ss. set ss b cells) u v → Does (place_step cells) w (ok b) v
+      unfolding place_step place
       place-done t = put-done (length cells) cells w r asked a (rw f at d) t
 
-    pub place-refused : {v : List ℕ} (q : Question) → c ≡ Err q → Does (place_step cells) w (placed_answer (Refused (number q))) v
-    unfolding place_step place placed_answer
+    pub place-refused : {v : List ℕ} (q : Question) → c ≡ Err q → Does (place_step cells) w (refuse (number q)) v
+    unfolding place_step place
     place-refused q f = put_refused (length cells) cells w r asked a (rw f at d)
 
 -- Uninitialized cells leave the barrier as it is
@@ -146,8 +145,8 @@ blanks-counted zero b = refl
 blanks-counted (suc n) b = blanks-counted n b
 
 module _ (amount : ℕ) (w : List ℕ) (r : Fit) (e : fit_answer r ≡ fit_for amount (decode w)) where
-  pub blank_none : {v : List ℕ} → r ≡ fit.No → Does (blank_step amount) w (placed_answer (Refused 7)) v
-  unfolding blank_step place_new placed_answer
+  pub blank_none : {v : List ℕ} → r ≡ fit.No → Does (blank_step amount) w (refuse 7) v
+  unfolding blank_step place_new
   blank_none a = put-none amount (replicate amount blank) w r e a
 
   module _ {b : ℕ} (a : r ≡ fit.At b) where
@@ -155,6 +154,6 @@ module _ (amount : ℕ) (w : List ℕ) (r : Fit) (e : fit_answer r ≡ fit_for a
     unfolding fit_answer
     blank-room = rw a at e
 
-    pub blank-done : {v : List ℕ} → Turned (λ ss. set ss b (replicate amount blank)) w v → Does (blank_step amount) w (placed_answer (At b)) v
-    unfolding blank_step place_new placed_answer count_step with_old with_old_bar
+    pub blank-done : {v : List ℕ} → Turned (λ ss. set ss b (replicate amount blank)) w v → Does (blank_step amount) w (ok b) v
+    unfolding blank_step place_new count_step with_old with_old_bar
     blank-done t = put-done amount (replicate amount blank) w r e a (record { does = λ h i. rw (blanks-counted amount h.old.bar) (refl, i) }) t

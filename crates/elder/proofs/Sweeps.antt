@@ -3,7 +3,6 @@ use mathlib.Core.Path.{◌≡◌, refl, sym}
 use mathlib.Core.Bool.{Bool, true, false}
 use mathlib.Core.List.{List, []}
 use Prim.Native.Nat.{ℕ, suc, ◌≤◌, ◌<◌}
-use native.Mathlib.Omega.{arith}
 use lib.Dec.{ltb}
 use lib.ListN.{length}
 use borrow.Author.Tests.{lt-ltb, le-ltb}
@@ -22,7 +21,7 @@ use Rattle.theorems.proofs.Image.{image-decode}
 use Rattle.theorems.proofs.Kept.{fit-good}
 use Rattle.theorems.proofs.Res.{holds_at}
 use Rattle.barrier.specs.Counts.{barrier_of}
-use Rattle.question.specs.Question.{number, answer}
+use Rattle.question.specs.Question.{answer}
 use Rattle.question.specs.declared.Question.{Question}
 use Rattle.barrier.specs.declared.WriteBarrier.{WriteBarrier}
 use Rattle.trace.specs.Words.{tab, members}
@@ -30,9 +29,8 @@ use Rattle.trace.proofs.Entries.{length-members}
 use Rattle.layout.specs.Elder.{with_slots, Turned}
 use Rattle.fields.specs.Fields.{Reads, Turns, on_old, with_old_bar, collected_once}
 use Rattle.fields.proofs.Parts.{most-is}
-use Rattle.elder.specs.Steps.{swept, swept_answer, Collects, collect_with, collect_step}
-use Rattle.elder.specs.declared.Swept.{Swept}
-use Rattle.elder.specs.declared.Swept.TheVariants.{Done, Refused}
+use Rattle.elder.specs.Steps.{swept, Collects, collect_with, collect_step}
+use Rattle.question.specs.declared.Question.TheVariants.{Bound}
 
 -- `sweep`
 
@@ -47,15 +45,12 @@ module _ {w u v : List ℕ} (b : Barrier) (ps : List Ptr) (s : Turns (on_old (wi
 
 -- `collect_with`
 
-never : {n q : ℕ} → Done n ≡ Refused q → ⊥
-never e = let z : ◌≡◌ {A = ℕ} 0 1 = cc in omega arith
-
 module _ (n : ℕ) (list : List ℕ) {w : List ℕ} {colls : ℕ} (r : Reads (λ h. h.old.colls) w colls) where
   abbrev ps : List Ptr
   ps = members n list
 
-  pub counter-full : 4294967295 ≤ colls → Collects (collect_with ps) w (Refused 11) w
-  unfolding collect_with swept_answer
+  pub counter-full : 4294967295 ≤ colls → Collects (collect_with ps) w (Err Bound) w
+  unfolding collect_with
   counter-full k = record { does = record { does = λ h i. rw (r.reads h i, le-ltb colls most (rw most-is k)) refl }; kept = λ _ _. refl }
 
   module _ (small : colls < 4294967295) (c : Result WriteBarrier Question) (d : Reads (λ h. count_dropped ps 0 h.old.slots h.old.bar) w (answer barrier_of c)) where
@@ -87,12 +82,10 @@ module _ (n : ℕ) (list : List ℕ) {w : List ℕ} {colls : ℕ} (r : Reads (λ
       pub sweep-asks : Image w (decode w) → FitBarrier (barrier_of x) × ((decode w).old.colls < most)
       sweep-asks i = (sweep-fit i, rw (r.reads _ i) below)
 
-      pub with-done : {v : List ℕ} → Turns (on_old (swept ps (barrier_of x))) w v → Collects (collect_with ps) w (Done n) v
-      unfolding swept_answer
-      with-done t = record { does = record { does = λ h i. rw (swept-is h i, a) (refl, t.turns h i) }; kept = λ q e. absurd (never e) }
+      pub with-done : {v : List ℕ} → Turns (on_old (swept ps (barrier_of x))) w v → Collects (collect_with ps) w (Ok n) v
+      with-done t = record { does = record { does = λ h i. rw (swept-is h i, a) (refl, t.turns h i) }; kept = λ q e. absurd cc }
 
-    pub with-refused : (q : Question) → c ≡ Err q → Collects (collect_with ps) w (Refused (number q)) w
-    unfolding swept_answer
+    pub with-refused : (q : Question) → c ≡ Err q → Collects (collect_with ps) w (Err q) w
     with-refused q a = record { does = record { does = λ h i. rw (swept-is h i, a) refl }; kept = λ _ _. refl }
 
 -- `collect`
@@ -121,6 +114,6 @@ module _ (roots : List Cell) (ms : List ℕ) where
 
 -- `collect_all`: no roots and no masks, no members
 
-pub with_none : {w : List ℕ} {r : Swept} {v : List ℕ} (list : List ℕ) → Collects (collect_with (members 0 list)) w r v → Collects (collect_step [] []) w r v
+pub with_none : {w : List ℕ} {r : Result ℕ Question} {v : List ℕ} (list : List ℕ) → Collects (collect_with (members 0 list)) w r v → Collects (collect_step [] []) w r v
 unfolding members tab
 with_none list s = record { does = with-members [] [] [] (λ h i. sym (no_old h.old)) s.does; kept = s.kept }

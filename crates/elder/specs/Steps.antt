@@ -1,6 +1,6 @@
 -- The elder's steps on a heap, with what the code answers of each.
-use Rattle.std.specs.Prelude.{◌≡◌, List, ℕ, suc, ◌*◌, ◌≤◌, ltb, length}
-use Rattle.model.specs.Res.{Res, ok, refuse, ◌>>=◌, ask, each}
+use Rattle.std.specs.Prelude.{◌≡◌, Result, Err, List, ℕ, suc, ◌*◌, ◌≤◌, ltb, length}
+use Rattle.model.specs.Res.{Res, ok, ◌>>=◌, ask, each}
 use Rattle.model.specs.Records.{Ptr, Cell}
 use Rattle.model.specs.Barrier.{Barrier, most, count_in}
 use Rattle.model.specs.Heap.{Elder, Heap}
@@ -9,23 +9,13 @@ use Rattle.theorems.specs.Fit.{Image}
 use Rattle.theorems.specs.Does.{Does, with_old}
 use Rattle.trace.specs.Words.{members}
 use Rattle.fields.specs.Fields.{on_old, with_old_bar}
-use Rattle.elder.specs.declared.Swept.{Swept}
-use Rattle.elder.specs.declared.Swept.TheVariants as swept-answers
-use Rattle.elder.specs.declared.Placed.{Placed}
-use Rattle.elder.specs.declared.Placed.TheVariants as placed-answers
-
-unfoldable pub swept_answer : Swept → Res ℕ
-swept_answer (swept-answers.Done v) = ok v
-swept_answer (swept-answers.Refused q) = refuse q
-
-unfoldable pub placed_answer : Placed → Res ℕ
-placed_answer (placed-answers.At b) = ok b
-placed_answer (placed-answers.Refused q) = refuse q
+use Rattle.question.specs.Question.{number_answer}
+use Rattle.question.specs.declared.Question.{Question}
 
 -- the step is done, and a refusal leaves the words
-pub record Collects (step : Heap → Res (ℕ × Heap)) (w : List ℕ) (r : Swept) (v : List ℕ) : Type 0 where
-  pub does : Does step w (swept_answer r) v
-  pub kept : (q : ℕ) → r ≡ swept-answers.Refused q → v ≡ w
+pub record Collects (step : Heap → Res (ℕ × Heap)) (w : List ℕ) (r : Result ℕ Question) (v : List ℕ) : Type 0 where
+  pub does : Does step w (number_answer r) v
+  pub kept : (q : Question) → r ≡ Err q → v ≡ w
 
 -- the first n entries of the list are the members, and it holds them all
 pub record Listed (roots : List Cell) (ms w : List ℕ) (n : ℕ) (list : List ℕ) : Type 0 where

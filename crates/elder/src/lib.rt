@@ -11,30 +11,16 @@ ghost use Rattle.model.specs.Elder.{count_dropped};
 ghost use Rattle.model.specs.Calls.{cells_in};
 ghost use Rattle.theorems.specs.Fit.{FitBarrier, Image};
 ghost use Rattle.theorems.specs.Does.{Does};
-ghost use Rattle.question.specs.Question.{answer, done_answer};
+ghost use Rattle.question.specs.Question.{answer, number_answer, done_answer};
 ghost use Rattle.barrier.specs.Counts.{barrier_of};
 ghost use Rattle.trace.specs.Words.{members};
 ghost use Rattle.fields.specs.Fields.{Reads, Turns, on_old};
-ghost use Rattle.elder.specs.Steps.{Listed, swept, swept_answer, placed_answer, Collects, collect_with, collect_step, count_step, place_step, blank_step};
+ghost use Rattle.elder.specs.Steps.{Listed, swept, Collects, collect_with, collect_step, count_step, place_step, blank_step};
 
 use barrier::{WriteBarrier, cells};
 use image::counts::MOST;
 use layout::{Fit, places};
 use question::Question;
-
-// The visits, or the number of the question that got a no.
-#[derive(Clone, Copy)]
-pub enum Swept {
-    Done(u64),
-    Refused(u64),
-}
-
-// The new base, or the number of the question that got a no.
-#[derive(Clone, Copy)]
-pub enum Placed {
-    At(u64),
-    Refused(u64),
-}
 
 // Does it hold T allocations or more?
 pub fn is_full(image: &[u64]) -> bool
@@ -90,36 +76,37 @@ fn sweep(image: &mut [u64], list: &[u64], count: usize, b: WriteBarrier)
     fields::count_old_collection(image);
 }
 
-// A collection with these members.
-fn collect_with(image: &mut [u64], list: &[u64], count: usize) -> Swept
+// A collection with these members; how many they are.
+fn collect_with(image: &mut [u64], list: &[u64], count: usize) -> Result<u64, Question>
     requires image { Image image.old (decode image.old) }
     requires count_in_bounds { 3 * count ≤ length list.now }
     ensures { Collects (collect_with (members count list.now)) image.old result image.new }
 {
     if MOST <= fields::old_collections(image) {
-        return Swept::Refused(11);
+        return Err(Question::Bound);
     }
-    match count_dropped(image, list, count) {
-        Ok(b) => {
-            sweep(image, list, count, b);
-            Swept::Done(count as u64)
-        }
-        Err(q) => Swept::Refused(q.number()),
-    }
+    let b = count_dropped(image, list, count)?;
+    sweep(image, list, count, b);
+    Ok(count as u64)
 }
 
-// A collection. Its members are listed in the lent words.
-pub fn collect(image: &mut [u64], roots: &[u64], masks: &[u64], list: &mut [u64]) -> Swept
+// A collection; how many members it visited. They are listed in the lent words.
+pub fn collect(
+    image: &mut [u64],
+    roots: &[u64],
+    masks: &[u64],
+    list: &mut [u64],
+) -> Result<u64, Question>
     requires image { Image image.old (decode image.old) }
     requires image_in_bounds { 3 * (length roots.now / 3 + (decode image.old).size.s + (decode image.old).size.c) ≤ length list.old }
-    ensures { Does (collect_step (cells_in roots.now) masks.now) image.old (swept_answer result) image.new }
+    ensures { Does (collect_step (cells_in roots.now) masks.now) image.old (number_answer result) image.new }
 {
     let count = members(image, roots, masks, list);
     collect_with(image, list, count)
 }
 
 // A collection without roots and masks has no members: nothing is traced, and every allocation leaves.
-pub fn collect_all(image: &mut [u64]) -> Swept
+pub fn collect_all(image: &mut [u64]) -> Result<u64, Question>
     requires { Image image.old (decode image.old) }
     ensures { Collects (collect_step [] []) image.old result image.new }
 {
@@ -144,33 +131,29 @@ fn count_in(image: &mut [u64], src: &[u64]) -> Result<(), Question>
 }
 
 // These cells at the new base.
-pub fn place(image: &mut [u64], src: &[u64]) -> Placed
+pub fn place(image: &mut [u64], src: &[u64]) -> Result<u64, Question>
     requires image { Image image.old (decode image.old) }
     requires src_value { whole_cells src.now ≡ true }
-    ensures { Does (place_step (cells_in src.now)) image.old (placed_answer result) image.new }
+    ensures { Does (place_step (cells_in src.now)) image.old (number_answer result) image.new }
 {
     let len = src.len() / 3;
     let Fit::At(b) = layout::room_for(image, len) else {
-        return Placed::Refused(7);
+        return Err(Question::Room);
     };
-    match count_in(image, src) {
-        Ok(()) => {
-            layout::put_cells(image, b, src, len);
-            Placed::At(b as u64)
-        }
-        Err(q) => Placed::Refused(q.number()),
-    }
+    count_in(image, src)?;
+    layout::put_cells(image, b, src, len);
+    Ok(b as u64)
 }
 
 // So many Uninitialized cells at the new base.
-pub fn place_new(image: &mut [u64], amount: u64) -> Placed
+pub fn place_new(image: &mut [u64], amount: u64) -> Result<u64, Question>
     requires { Image image.old (decode image.old) }
-    ensures { Does (blank_step amount) image.old (placed_answer result) image.new }
+    ensures { Does (blank_step amount) image.old (number_answer result) image.new }
 {
     let len = amount as usize;
     let Fit::At(b) = layout::room_for(image, len) else {
-        return Placed::Refused(7);
+        return Err(Question::Room);
     };
     layout::put_blank(image, b, len);
-    Placed::At(b as u64)
+    Ok(b as u64)
 }

@@ -25,8 +25,6 @@ use Rattle.access.specs.declared.Stored.{Stored}
 use Rattle.access.specs.declared.Stored.TheVariants as stored
 use Rattle.collector.specs.Alloc.{alloc_outcome}
 use Rattle.collector.specs.declared.Allocation.{Allocation}
-use Rattle.collector.specs.declared.Allocated.{Allocated}
-use Rattle.collector.specs.declared.Allocated.TheVariants as allocated
 use Rattle.report.specs.Numbers.{numbers, report_outcome}
 use Rattle.report.specs.declared.Statistics.{Statistics}
 use Rattle.report.specs.declared.Reported.{Reported}
@@ -79,17 +77,13 @@ pub words-in : (a : Allocation) {x : ℕ} → x ≡ of_z w64 a.pointer.offset �
 unfolding allocation_words
 words-in a e = ap (λ (x : ℕ). a.pointer.heap ∷ a.pointer.base ∷ x ∷ a.nursery.collections ∷ a.nursery.visits ∷ a.elder.collections ∷ a.elder.visits ∷ []) e
 
-pub allocated-at : {r : Allocated} {a : Allocation} {out before : List ℕ} → r ≡ allocated.At a → out ≡ allocation_words a → (v roots : List ℕ) → Allocates (alloc_outcome r v roots) before 0 out v roots
+pub allocated-ok : {r : Result Allocation Question} {a : Allocation} {out before : List ℕ} → r ≡ Ok a → out ≡ allocation_words a → (v roots : List ℕ) → Allocates (alloc_outcome r v roots) before 0 out v roots
 unfolding number_of out_of allocation_words alloc_outcome
-allocated-at {out = out} {before = before} e f v roots =
-    subst (λ (r : Allocated). Allocates (alloc_outcome r v roots) before 0 out v roots) (sym e)
-    (record { answers = record { number = refl; written = f }; image = refl; roots = refl })
+allocated-ok {out = out} {before = before} e f v roots = rw e (record { answers = record { number = refl; written = f }; image = refl; roots = refl })
 
-pub allocated-refused : {r : Allocated} {q : ℕ} {before : List ℕ} → r ≡ allocated.Refused q → (v roots : List ℕ) → Allocates (alloc_outcome r v roots) before q before v roots
+pub allocated-err : {r : Result Allocation Question} {q : Question} {n : ℕ} {before : List ℕ} → r ≡ Err q → n ≡ number q → (v roots : List ℕ) → Allocates (alloc_outcome r v roots) before n before v roots
 unfolding number_of out_of alloc_outcome
-allocated-refused {q = q} {before = before} e v roots =
-    subst (λ (r : Allocated). Allocates (alloc_outcome r v roots) before q before v roots) (sym e)
-    (record { answers = record { number = refl; written = refl }; image = refl; roots = refl })
+allocated-err {before = before} e m v roots = rw e (record { answers = record { number = m; written = refl }; image = refl; roots = refl })
 
 -- report
 

@@ -26,7 +26,7 @@ ghost use Rattle.figure.specs.Answer.{model_figure, figured_answer};
 ghost use Rattle.heap_c.specs.Replies.{words_of, allocation_words, figure_words, figure_answer, Answers, Leaves, Reports, Allocates};
 
 use access::{Loaded, Stored};
-use collector::{Allocated, Allocation};
+use collector::Allocation;
 use figure::Figure;
 use question::Question;
 use report::Reported;
@@ -108,15 +108,15 @@ fn allocation_words(a: Allocation) -> [u64; 7]
     ]
 }
 
-fn answer_allocated(r: Allocated, out: &mut [u64; 7]) -> u64
+fn answer_allocated(r: Result<Allocation, Question>, out: &mut [u64; 7]) -> u64
     ensures { (v roots : List ℕ) → Allocates (alloc_outcome r v roots) out.old result out.new v roots }
 {
     match r {
-        Allocated::At(a) => {
+        Ok(a) => {
             *out = allocation_words(a);
             0
         }
-        Allocated::Refused(q) => q,
+        Err(q) => q.number(),
     }
 }
 

@@ -18,12 +18,13 @@ use Rattle.trace.proofs.Entries.{length-members}
 use Rattle.fields.specs.Fields.{Reads, Turns, on_young}
 use Rattle.fields.proofs.Parts.{most-is}
 use Rattle.nursery.specs.Steps.{Listed, collected_answer, collect_step}
-use Rattle.nursery.specs.declared.Collected.TheVariants.{Done, Refused}
+use Rattle.question.specs.declared.Question.TheVariants.{Allocation, Bound}
+use Rattle.std.proofs.Common.{Ok, Err}
 
 module _ (roots : List Cell) (ms : List ℕ) {w : List ℕ} {collections : ℕ} (counted : Reads (λ h. h.young.colls) w collections) where
   -- the collections counter is full
-  pub collect-full : 4294967295 ≤ collections → (list : List ℕ) {v : List ℕ} → Does (collect_step roots ms) w (collected_answer (Refused 11) list) v
-  unfolding collect_step collect_young collected_answer
+  pub collect-full : 4294967295 ≤ collections → (list : List ℕ) {v : List ℕ} → Does (collect_step roots ms) w (collected_answer (Err Bound) list) v
+  unfolding collect_step collect_young
   collect-full f list = record { does = λ h i. rw (counted.reads h i, le-ltb collections most (omega (arith, most-is))) }
 
   module _ (below : collections < 4294967295) {visits : ℕ} {list : List ℕ} (kept : ℕ) (sorted : List ℕ) (entered : Listed roots ms w visits list) (are : members kept sorted ≡ survivors (members visits list)) where
@@ -39,8 +40,8 @@ module _ (roots : List Cell) (ms : List ℕ) {w : List ℕ} {collections : ℕ} 
 
     module _ {all : Bool} (asked : Reads (λ h. all_allocated h.young (members kept sorted)) w all) where
       -- a survivor has no allocation
-      pub collect-lost : all ≡ false → {v : List ℕ} → Does (collect_step roots ms) w (collected_answer (Refused 6) sorted) v
-      unfolding collect_step collect_young collected_answer
+      pub collect-lost : all ≡ false → {v : List ℕ} → Does (collect_step roots ms) w (collected_answer (Err Allocation) sorted) v
+      unfolding collect_step collect_young
       collect-lost f = record { does = λ h i. rw (not_full h i, ← survivors-are h i, asked.reads h i, f) }
 
       module _ (found : all ≡ true) {promotions : ℕ} (moved : Reads (λ h. h.young.proms) w promotions) where
@@ -48,14 +49,14 @@ module _ (roots : List Cell) (ms : List ℕ) {w : List ℕ} {collections : ℕ} 
         promotions-are h i = omega (arith, moved.reads h i, visits-are h i)
 
         -- the promotions counter would be too high
-        pub collect-over : 4294967295 - promotions < visits → {v : List ℕ} → Does (collect_step roots ms) w (collected_answer (Refused 11) sorted) v
-        unfolding collect_step collect_young collected_answer
+        pub collect-over : 4294967295 - promotions < visits → {v : List ℕ} → Does (collect_step roots ms) w (collected_answer (Err Bound) sorted) v
+        unfolding collect_step collect_young
         collect-over f =
             let over : most < promotions + visits = omega (arith, most-is) in
             record { does = λ h i. rw (not_full h i, ← survivors-are h i, asked.reads h i, found, promotions-are h i, lt-leb (promotions + visits) most over) }
 
-        pub collect-done : visits ≤ 4294967295 - promotions → {v : List ℕ} → Turns (on_young (λ y. emptied y visits)) w v → Does (collect_step roots ms) w (collected_answer (Done visits kept) sorted) v
-        unfolding collect_step collect_young collected_answer
+        pub collect-done : visits ≤ 4294967295 - promotions → {v : List ℕ} → Turns (on_young (λ y. emptied y visits)) w v → Does (collect_step roots ms) w (collected_answer (Ok (record { visits = visits; survivors = kept })) sorted) v
+        unfolding collect_step collect_young
         collect-done f t = record {
           does = λ h i.
               let below : promotions + visits ≤ most = omega (arith, most-is, moved.reads h i, i.fit.young.proms) in

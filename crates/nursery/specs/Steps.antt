@@ -1,6 +1,6 @@
 -- The nursery's collection on a heap, with what the code answers of it.
-use Rattle.std.specs.Prelude.{◌≡◌, List, ℕ, ◌*◌, ◌≤◌, length}
-use Rattle.model.specs.Res.{Res, ok, refuse, ◌>>=◌}
+use Rattle.std.specs.Prelude.{◌≡◌, Result, List, ℕ, ◌*◌, ◌≤◌, length}
+use Rattle.model.specs.Res.{Res, ok, ◌>>=◌}
 use Rattle.model.specs.Records.{Ptr, Cell}
 use Rattle.model.specs.Heap.{Heap}
 use Rattle.model.specs.Nursery.{young_members, survivors, collect_young}
@@ -8,12 +8,12 @@ use Rattle.theorems.specs.Fit.{Image}
 use Rattle.theorems.specs.Does.{with_young}
 use Rattle.trace.specs.Words.{members}
 use Rattle.nursery.specs.declared.Collected.{Collected}
-use Rattle.nursery.specs.declared.Collected.TheVariants.{Done, Refused}
+use Rattle.question.specs.Question.{answer}
+use Rattle.question.specs.declared.Question.{Question}
 
 -- the visits, and the survivors that the list holds
-unfoldable pub collected_answer : Collected → List ℕ → Res (ℕ × List Ptr)
-collected_answer (Done visits kept) list = ok (visits, members kept list)
-collected_answer (Refused q) list = refuse q
+abbrev pub collected_answer : Result Collected Question → List ℕ → Res (ℕ × List Ptr)
+collected_answer r list = answer (λ c. (c.visits, members c.survivors list)) r
 
 -- the first n entries of the list are the members, and it holds them all
 pub record Listed (roots : List Cell) (ms w : List ℕ) (n : ℕ) (list : List ℕ) : Type 0 where

@@ -13,12 +13,13 @@ ghost use Rattle.nursery.specs.Steps.{Listed, collected_answer, collect_step};
 
 use image::counts::MOST;
 use layout::places;
+use question::Question;
 
-// The visits and the number of survivors, or the number of the question that got a no.
+// How many members a collection visited, and how many of them survive.
 #[derive(Clone, Copy)]
-pub enum Collected {
-    Done(u64, usize),
-    Refused(u64),
+pub struct Collected {
+    pub visits: u64,
+    pub survivors: usize,
 }
 
 // Is the amount below N − cursor?
@@ -57,25 +58,30 @@ fn all_allocated(image: &[u64], list: &[u64], count: usize) -> bool
 }
 
 // A collection. The survivors stand in the lent words, sorted.
-pub fn collect(image: &mut [u64], roots: &[u64], masks: &[u64], list: &mut [u64]) -> Collected
+pub fn collect(
+    image: &mut [u64],
+    roots: &[u64],
+    masks: &[u64],
+    list: &mut [u64],
+) -> Result<Collected, Question>
     requires image { Image image.old (decode image.old) }
     requires image_in_bounds { 3 * (length roots.now / 3 + 2 * (decode image.old).size.n) ≤ length list.old }
     ensures { Does (collect_step (cells_in roots.now) masks.now) image.old (collected_answer result list.new) image.new }
 {
     if MOST <= fields::young_collections(image) {
-        return Collected::Refused(11);
+        return Err(Question::Bound);
     }
-    let visits = members(image, roots, masks, list);
-    let kept = survivors::survivors(list, visits);
-    if !all_allocated(image, list, kept) {
-        return Collected::Refused(6);
+    let entered = members(image, roots, masks, list);
+    let survivors = survivors::survivors(list, entered);
+    if !all_allocated(image, list, survivors) {
+        return Err(Question::Allocation);
     }
-    let entered = visits as u64;
-    if MOST - fields::promotions(image) < entered {
-        return Collected::Refused(11);
+    let visits = entered as u64;
+    if MOST - fields::promotions(image) < visits {
+        return Err(Question::Bound);
     }
-    fields::empty_nursery(image, entered);
-    Collected::Done(entered, kept)
+    fields::empty_nursery(image, visits);
+    Ok(Collected { visits, survivors })
 }
 
 // The part of the nursery's cells that the allocation at base occupies.

@@ -21,9 +21,10 @@ use Rattle.theorems.proofs.Image.{image-decode}
 use Rattle.theorems.proofs.Members.{no-young}
 use Rattle.fields.specs.Fields.{Reads, Turns, on_young}
 use Rattle.fields.proofs.Parts.{most-is}
-use Rattle.elder.specs.Steps.{swept_answer, Collects, collect_step}
-use Rattle.elder.specs.declared.Swept.{Swept}
-use Rattle.elder.specs.declared.Swept.TheVariants as swept
+use Rattle.std.proofs.Common.{Result, Ok, Err}
+use Rattle.question.specs.Question.{number, number_answer}
+use Rattle.question.specs.declared.Question.{Question}
+use Rattle.elder.specs.Steps.{Collects, collect_step}
 use Rattle.report.specs.Numbers.{numbers, report_outcome}
 use Rattle.report.specs.declared.Statistics.{Statistics}
 use Rattle.report.specs.declared.Reported.TheVariants.{Taken, Refused}
@@ -45,23 +46,23 @@ record Left (h : Heap) (v : List ℕ) : Type 0 where
   is : collected h ≡ ok (members, elder)
   image : Image v (with_old elder h)
 
-module _ {w v : List ℕ} {a : Swept} (c : Collects (collect_step [] []) w a v) {h : Heap} (i : Image w h) where
-  met : (b : Swept) → a ≡ b → Meets (collect_step [] [] h) (swept_answer b) v
+module _ {w v : List ℕ} {a : Result ℕ Question} (c : Collects (collect_step [] []) w a v) {h : Heap} (i : Image w h) where
+  met : (b : Result ℕ Question) → a ≡ b → Meets (collect_step [] [] h) (number_answer b) v
   met b e = rw e at (c.does.does h i)
 
-  left : (n : ℕ) → a ≡ swept.Done n → Left h v
-  unfolding collect_step swept_answer
-  left n e = go (collected h) refl (met (swept.Done n) e)
+  left : (n : ℕ) → a ≡ Ok n → Left h v
+  unfolding collect_step
+  left n e = go (collected h) refl (met (Ok n) e)
     where
       go : (m : Res (List Ptr × Elder)) → collected h ≡ m → Meets (m >>= λ r. ok (length r.0, with_old r.1 h)) (ok n) v → Left h v
       go (ok x) is k = record { members = x.0; elder = x.1; is = is; image = k.1 }
       go (refuse q) is k = absurd k
 
-  refused : (q : ℕ) → a ≡ swept.Refused q → collected h ≡ refuse q
-  unfolding collect_step swept_answer
-  refused q e = go (collected h) refl (met (swept.Refused q) e)
+  refused : (q : Question) → a ≡ Err q → collected h ≡ refuse (number q)
+  unfolding collect_step
+  refused q e = go (collected h) refl (met (Err q) e)
     where
-      go : (m : Res (List Ptr × Elder)) → collected h ≡ m → Meets (m >>= λ r. ok (length r.0, with_old r.1 h)) (refuse q) v → collected h ≡ refuse q
+      go : (m : Res (List Ptr × Elder)) → collected h ≡ m → Meets (m >>= λ r. ok (length r.0, with_old r.1 h)) (refuse (number q)) v → collected h ≡ refuse (number q)
       go (ok x) is k = absurd k
       go (refuse p) is k = rw k is
 
@@ -79,14 +80,14 @@ module _ {w : List ℕ} (s : Statistics) (r : Reads (λ h. statistics h) w (numb
   unfolding report collect_young reported report_outcome
   young-full k = rw (young-is, le-ltb s.nursery.collections most (rw most-is k))
 
-  module _ (young : s.nursery.collections < 4294967295) {v : List ℕ} {a : Swept} (c : Collects (collect_step [] []) w a v) where
+  module _ (young : s.nursery.collections < 4294967295) {v : List ℕ} {a : Result ℕ Question} (c : Collects (collect_step [] []) w a v) where
     young-small : (decode w).young.colls < most
     young-small = rw (young-is, most-is) young
 
     emptied-young : collect_young (decode w).young [] [] ≡ ok ([], emptied (decode w).young 0)
     emptied-young = young-collected (decode w).young young-small i.fit.young.proms
 
-    module _ (n : ℕ) (e : a ≡ swept.Done n) where
+    module _ (n : ℕ) (e : a ≡ Ok n) where
       pub empty-asks : Image v (decode v) × (((decode v).young.colls < most) × ((decode v).young.proms + 0 ≤ most))
       unfolding with_old
       empty-asks = let j = (left c i n e).image in rw (image-decode j) (j, (young-small, omega (arith, i.fit.young.proms)))
@@ -95,6 +96,6 @@ module _ {w : List ℕ} (s : Statistics) (r : Reads (λ h. statistics h) w (numb
       unfolding report reported report_outcome with_old with_young
       report-done t = let l = left c i n e in rw (emptied-young, l.is) (λ k. record { answer = ok (r.reads _ i k); image = sym (t.turns _ l.image).is k; roots = [] })
 
-    pub report-refused : (q : ℕ) → a ≡ swept.Refused q → asked ≡ report_outcome (Refused q) v
+    pub report-refused : (q : Question) → a ≡ Err q → asked ≡ report_outcome (Refused (number q)) v
     unfolding report reported report_outcome
     report-refused q e = rw (emptied-young, refused c i q e, c.kept q e)

@@ -12,7 +12,6 @@ ghost use Rattle.theorems.specs.Fit.{Image};
 ghost use Rattle.fields.specs.Fields.{Reads, bar_of};
 ghost use Rattle.report.specs.Numbers.{young_numbers, old_numbers, numbers, report_outcome, question_of, record_of, record_answer, Fills};
 
-use elder::Swept;
 use image::counts::MOST;
 use layout::places;
 
@@ -162,11 +161,11 @@ pub fn report_formed(image: &mut [u64]) -> Reported
         return Reported::Refused(11);
     }
     match elder::collect_all(image) {
-        Swept::Done(_) => {
+        Ok(_) => {
             fields::empty_nursery(image, 0);
             Reported::Taken(s)
         }
-        Swept::Refused(q) => Reported::Refused(q),
+        Err(asked) => Reported::Refused(asked.number()),
     }
 }
 

@@ -7,7 +7,7 @@ use Rattle.model.specs.Image.{decode}
 use Rattle.model.specs.Calls.{scratch_length}
 use Rattle.collector.proofs.Ending.{save-fits, ready-first, roots-asked, refused-is, gave-is}
 use Rattle.collector.proofs.collect_for.Goals as goal
-use Rattle.collector.proofs.collect_for.Goals.{After-collect_and_change-o, After-save-used}
+use Rattle.collector.proofs.collect_for.Goals.{After-collect_and_change, After-save-used}
 
 -- scratch keeps its length
 long-saved : (c : After-save-used) → length c.save-used.new.scratch ≡ length c.args.scratch.now
@@ -16,7 +16,7 @@ long-saved c = search rules
 room-saved : (c : After-save-used) → scratch_length (decode c.args.image.now).size (length c.args.roots.now / 3) ≤ length c.save-used.new.scratch
 room-saved c = omega (arith, long-saved c, c.requires.roots_in_bounds)
 
-kept : (c : After-collect_and_change-o) → (length c.collect_and_change-o.new.image ≡ length c.args.image.now) × (length c.collect_and_change-o.new.scratch ≡ length c.save-used.new.scratch)
+kept : (c : After-collect_and_change) → (length c.collect_and_change.new.image ≡ length c.args.image.now) × (length c.collect_and_change.new.scratch ≡ length c.save-used.new.scratch)
 kept c = (search rules, search rules)
 
 pub save-used-requires : goal.save-used-requires
@@ -25,11 +25,11 @@ save-used-requires c = record {
   image_in_bounds = save-fits c.args.image.now c.args.roots.now c.args.scratch.now c.requires.image c.requires.roots_in_bounds;
 }
 
-pub collect_and_change-o-requires : goal.collect_and_change-o-requires
-collect_and_change-o-requires c = ready-first _ c.args.image.now c.args.roots.now c.save-used.new.scratch c.requires.image c.requires.roots_value (room-saved (goal.at.collect_and_change-o-requires c).After-save-used) c.save-used.ensures c.requires.amount_nonzero
+pub collect_and_change-requires : goal.collect_and_change-requires
+collect_and_change-requires c = ready-first _ c.args.image.now c.args.roots.now c.save-used.new.scratch c.requires.image c.requires.roots_value (room-saved (goal.at.collect_and_change-requires c).After-save-used) c.save-used.ensures c.requires.amount_nonzero
 
 pub change_roots-requires : goal.change_roots-requires
-change_roots-requires c = let n = roots-asked _ c.args.image.now c.args.roots.now c.save-used.new.scratch c.requires.image c.requires.roots_value (room-saved (goal.at.change_roots-requires c).After-save-used) c.save-used.ensures c.collect_and_change-o.ensures _ c.in-At.is (kept (goal.at.change_roots-requires c).After-collect_and_change-o).1 in record {
+change_roots-requires c = let n = roots-asked _ c.args.image.now c.args.roots.now c.save-used.new.scratch c.requires.image c.requires.roots_value (room-saved (goal.at.change_roots-requires c).After-save-used) c.save-used.ensures c.collect_and_change.ensures _ c.in-Ok.is (kept (goal.at.change_roots-requires c).After-collect_and_change).1 in record {
   image = n.0;
   roots_value = n.1;
   roots_in_bounds = n.2;
@@ -37,10 +37,10 @@ change_roots-requires c = let n = roots-asked _ c.args.image.now c.args.roots.no
 }
 
 pub restore-requires : goal.restore-requires
-restore-requires c = let l = c.save-used.ensures.inside in let k = (kept (goal.at.restore-requires c).After-collect_and_change-o) in let n = save-fits c.args.image.now c.args.roots.now c.args.scratch.now c.requires.image c.requires.roots_in_bounds in let m = long-saved (goal.at.restore-requires c).After-save-used in (omega (arith, k.0), omega (arith, k.1))
+restore-requires c = let l = c.save-used.ensures.inside in let k = (kept (goal.at.restore-requires c).After-collect_and_change) in let n = save-fits c.args.image.now c.args.roots.now c.args.scratch.now c.requires.image c.requires.roots_in_bounds in let m = long-saved (goal.at.restore-requires c).After-save-used in (omega (arith, k.0), omega (arith, k.1))
 
-pub returns-in-At : goal.returns-in-At
-returns-in-At c = gave-is _ c.args.image.now c.args.roots.now c.save-used.new.scratch c.requires.image c.requires.roots_value (room-saved (goal.at.returns-in-At c).After-save-used) c.save-used.ensures c.collect_and_change-o.ensures _ c.in-At.is c.change_roots.ensures ∙ sym (c.collected.ensures _ _)
+pub returns-in-Ok : goal.returns-in-Ok
+returns-in-Ok c = gave-is _ c.args.image.now c.args.roots.now c.save-used.new.scratch c.requires.image c.requires.roots_value (room-saved (goal.at.returns-in-Ok c).After-save-used) c.save-used.ensures c.collect_and_change.ensures _ c.in-Ok.is c.change_roots.ensures ∙ sym (c.collected.ensures _ _)
 
-pub returns-in-Refused : goal.returns-in-Refused
-returns-in-Refused c = refused-is _ c.args.image.now c.args.roots.now c.save-used.new.scratch c.requires.image c.requires.roots_value (room-saved (goal.at.returns-in-Refused c).After-save-used) c.save-used.ensures c.collect_and_change-o.ensures _ c.in-Refused.is c.restore.ensures (kept (goal.at.returns-in-Refused c).After-collect_and_change-o).0
+pub returns-in-Err : goal.returns-in-Err
+returns-in-Err c = refused-is _ c.args.image.now c.args.roots.now c.save-used.new.scratch c.requires.image c.requires.roots_value (room-saved (goal.at.returns-in-Err c).After-save-used) c.save-used.ensures c.collect_and_change.ensures _ c.in-Err.is c.restore.ensures (kept (goal.at.returns-in-Err c).After-collect_and_change).0

@@ -1,6 +1,9 @@
+use Rattle.std.proofs.Common.{◌≡◌, rules}
 use Rattle.collector.proofs.Asking.{stays-young}
 use Rattle.collector.proofs.stay_young.Goals as goal
 
 pub returns : goal.returns
 returns c =
-    stays-young c.requires.image c.cursor-base.ensures c.bump.ensures c.requires.amount_nonzero
+    let nursery : c.default.result ≡ record { collections = 0; visits = 0 } = search rules in
+    let elder : c.default-2.result ≡ record { collections = 0; visits = 0 } = search rules in
+    rw (nursery, elder) (stays-young c.requires.image c.cursor-base.ensures c.bump.ensures c.requires.amount_nonzero)

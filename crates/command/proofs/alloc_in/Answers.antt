@@ -22,19 +22,19 @@ alloc_formed-requires c = c.requires.held.formed (omega (arith, c.if-image-eq0.f
 pub from_words-moved-requires : goal.from_words-moved-requires
 from_words-moved-requires c =
     let asked = rw (to_z-of_z w64 c.args.amount c.ranges.amount) at c.alloc_formed.ensures in
-    roots-whole (lent (goal.at.from_words-moved-requires c).After-words-roots) _ _ _ _ asked c.in-At.is
+    roots-whole (lent (goal.at.from_words-moved-requires c).After-words-roots) _ _ _ _ asked c.in-Ok.is
 
 pub set-requires : goal.set-requires
 set-requires c = c.requires.register_bound.0
 
-pub returns-in-At : goal.returns-in-At
-returns-in-At c =
+pub returns-in-Ok : goal.returns-in-Ok
+returns-in-Ok c =
     let asked = rw (to_z-of_z w64 c.args.amount c.ranges.amount) at c.alloc_formed.ensures in
-    let at = c.in-At.is in
+    let at = c.in-Ok.is in
     -- the walk tells of the answer's fields that the offset is an i64
-    alloc-acts (lent (goal.at.returns-in-At c).After-words-roots) _ _ _ _ asked at c.from_words-moved.result c.set.result _ c.from_words-moved.ensures.cells c.from_words-moved.ensures.good (record { sfits = c.in-At.known_told-1-own.given.0.1.1.0.1.1.1.1.0.1 }) c.set.ensures
+    alloc-acts (lent (goal.at.returns-in-Ok c).After-words-roots) _ _ _ _ asked at c.from_words-moved.result c.set.result _ c.from_words-moved.ensures.cells c.from_words-moved.ensures.good (record { sfits = c.in-Ok.known_told-1-own.given.0.1.1.0.1.1.1.1.0.1 }) c.set.ensures
 
-pub returns-in-Refused : goal.returns-in-Refused
-returns-in-Refused c =
+pub returns-in-Err : goal.returns-in-Err
+returns-in-Err c =
     let asked = rw (to_z-of_z w64 c.args.amount c.ranges.amount) at c.alloc_formed.ensures in
-    alloc-refused (lent (goal.at.returns-in-Refused c).After-words-roots) _ _ _ _ asked _ c.in-Refused.is c.refused-in-Refused.ensures
+    alloc-refused (lent (goal.at.returns-in-Err c).After-words-roots) _ _ _ _ asked _ c.in-Err.is (rw c.number.ensures at c.refused-in-Err.ensures)

@@ -12,7 +12,7 @@ decreases-collect_and_push_allocation l = 4 * l.left + not_yet l.collected
 
 abbrev pub invariant-collect_and_push_allocation-loop-i : goal.invariant-collect_and_push_allocation-loop-i
 invariant-collect_and_push_allocation-loop-i l =
-    Pushing l.fn.image l.roots l.masks l.fn.scratch l.moved l.initial.image l.initial.scratch l.image l.scratch l.tally l.i
+    Pushing l.fn.image l.roots l.masks l.fn.scratch l.c.survivors l.initial.image l.initial.scratch l.image l.scratch l.tally l.i
 
 abbrev pub decreases-collect_and_push_allocation-loop-i : goal.decreases-collect_and_push_allocation-loop-i
-decreases-collect_and_push_allocation-loop-i l = l.moved - l.i
+decreases-collect_and_push_allocation-loop-i l = l.c.survivors - l.i

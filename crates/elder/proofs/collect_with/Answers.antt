@@ -1,4 +1,5 @@
 use borrow.Author.Rules.{rules}
+use Rattle.question.proofs.Passing.{refused_as}
 use Rattle.elder.proofs.Sweeps.{counter-full, sweep-asks, with-done, with-refused}
 use Rattle.elder.proofs.collect_with.Goals as goal
 
@@ -7,17 +8,17 @@ returns-then-old_collections-ge-MOST c = counter-full _ _ c.old_collections.ensu
 
 pub sweep-requires : goal.sweep-requires
 sweep-requires c =
-    let others = sweep-asks _ _ c.old_collections.ensures c.if-old_collections-ge-MOST.false c.count_dropped.result c.count_dropped.ensures _ c.in-Ok.is c.requires.image in record {
+    let others = sweep-asks _ _ c.old_collections.ensures c.if-old_collections-ge-MOST.false c.count_dropped.result c.count_dropped.ensures _ c.in_ok-b.was c.requires.image in record {
       image = c.requires.image;
       count_in_bounds = search rules;
       fit_barrier = others.0;
       image_bound = others.1;
     }
 
-pub returns-in-Ok : goal.returns-in-Ok
-returns-in-Ok c =
-    with-done _ _ c.old_collections.ensures c.if-old_collections-ge-MOST.false c.count_dropped.result c.count_dropped.ensures _ c.in-Ok.is c.sweep.ensures
+pub returns : goal.returns
+returns c =
+    with-done _ _ c.old_collections.ensures c.if-old_collections-ge-MOST.false c.count_dropped.result c.count_dropped.ensures _ c.in_ok-b.was c.sweep.ensures
 
-pub returns-in-Err : goal.returns-in-Err
-returns-in-Err c =
-    rw c.number.ensures (with-refused _ _ c.old_collections.ensures c.if-old_collections-ge-MOST.false c.count_dropped.result c.count_dropped.ensures _ c.in-Err.is)
+pub returns-in_err-b : goal.returns-in_err-b
+returns-in_err-b c =
+    rw (refused_as c.from_residual.result _ c.from_residual.ensures.1) (with-refused _ _ c.old_collections.ensures c.if-old_collections-ge-MOST.false c.count_dropped.result c.count_dropped.ensures _ c.in_err-b.was)

@@ -1,8 +1,8 @@
-use Rattle.heap_c.proofs.Replying.{allocated-at, allocated-refused}
+use Rattle.heap_c.proofs.Replying.{allocated-ok, allocated-err}
 use Rattle.heap_c.proofs.answer_allocated.Goals as goal
 
-pub returns-in-At : goal.returns-in-At
-returns-in-At c = allocated-at c.in-At.is c.allocation_words.ensures
+pub returns-in-Ok : goal.returns-in-Ok
+returns-in-Ok c = allocated-ok c.in-Ok.is c.allocation_words.ensures
 
-pub returns-in-Refused : goal.returns-in-Refused
-returns-in-Refused c = allocated-refused c.in-Refused.is
+pub returns-in-Err : goal.returns-in-Err
+returns-in-Err c = allocated-err c.in-Err.is c.number.ensures

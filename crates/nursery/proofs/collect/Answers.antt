@@ -1,27 +1,28 @@
 use borrow.Author.Rules.{rules}
+use mathlib.Core.List.{[]}
 use native.Mathlib.Omega.{arith}
 use Rattle.fields.proofs.Parts.{most-is}
 use Rattle.nursery.proofs.Collecting.{collect-full, collect-lost, collect-over, collect-done}
 use Rattle.nursery.proofs.collect.Goals as goal
 
 pub returns-then-young_collections-ge-MOST : goal.returns-then-young_collections-ge-MOST
-returns-then-young_collections-ge-MOST c = collect-full _ _ c.young_collections.ensures (search rules) _
+returns-then-young_collections-ge-MOST c = collect-full _ _ c.young_collections.ensures (search rules) []
 
 pub returns-then-not-all_allocated : goal.returns-then-not-all_allocated
 returns-then-not-all_allocated c =
     let collections = c.young_collections.ensures in
-    collect-lost _ _ collections (search rules) _ _ c.members-visits.ensures c.survivors-kept.ensures.list_after c.all_allocated.ensures c.if-not-all_allocated.true
+    collect-lost _ _ collections (search rules) _ _ c.members-entered.ensures c.survivors-survivors.ensures.list_after c.all_allocated.ensures c.if-not-all_allocated.true
 
 pub overflow_sub-promotions : goal.overflow_sub-promotions
 overflow_sub-promotions c =
     let i = c.requires.image in
     omega (arith, most-is, c.promotions.ensures.reads _ i, i.fit.young.proms)
 
-pub returns-then-promotions-entered : goal.returns-then-promotions-entered
-returns-then-promotions-entered c =
+pub returns-then-promotions-visits : goal.returns-then-promotions-visits
+returns-then-promotions-visits c =
     let collections = c.young_collections.ensures in
     let promotions = c.promotions.ensures in
-    collect-over _ _ collections (search rules) _ _ c.members-visits.ensures c.survivors-kept.ensures.list_after c.all_allocated.ensures c.if-not-all_allocated.false promotions (search rules)
+    collect-over _ _ collections (search rules) _ _ c.members-entered.ensures c.survivors-survivors.ensures.list_after c.all_allocated.ensures c.if-not-all_allocated.false promotions (search rules)
 
 pub empty_nursery-requires : goal.empty_nursery-requires
 empty_nursery-requires c =
@@ -36,4 +37,4 @@ pub returns : goal.returns
 returns c =
     let collections = c.young_collections.ensures in
     let promotions = c.promotions.ensures in
-    collect-done _ _ collections (search rules) _ _ c.members-visits.ensures c.survivors-kept.ensures.list_after c.all_allocated.ensures c.if-not-all_allocated.false promotions (search rules) c.empty_nursery.ensures
+    collect-done _ _ collections (search rules) _ _ c.members-entered.ensures c.survivors-survivors.ensures.list_after c.all_allocated.ensures c.if-not-all_allocated.false promotions (search rules) c.empty_nursery.ensures

@@ -5,12 +5,12 @@ pub returns-then-collections-ge-MOST : goal.returns-then-collections-ge-MOST
 returns-then-collections-ge-MOST c = young-full _ c.take_numbers-s.ensures c.requires c.if-collections-ge-MOST.true
 
 pub empty_nursery-requires : goal.empty_nursery-requires
-empty_nursery-requires c = let all = (empty-asks _ c.take_numbers-s.ensures c.requires c.if-collections-ge-MOST.false c.collect_all.ensures _ c.in-Done.is) in record { image = all.0; image_bound = all.1 }
+empty_nursery-requires c = let all = (empty-asks _ c.take_numbers-s.ensures c.requires c.if-collections-ge-MOST.false c.collect_all.ensures _ c.in-Ok.is) in record { image = all.0; image_bound = all.1 }
 
-pub returns-in-Done : goal.returns-in-Done
-returns-in-Done c =
-    report-done _ c.take_numbers-s.ensures c.requires c.if-collections-ge-MOST.false c.collect_all.ensures _ c.in-Done.is c.empty_nursery.ensures
+pub returns-in-Ok : goal.returns-in-Ok
+returns-in-Ok c =
+    report-done _ c.take_numbers-s.ensures c.requires c.if-collections-ge-MOST.false c.collect_all.ensures _ c.in-Ok.is c.empty_nursery.ensures
 
-pub returns-in-Refused : goal.returns-in-Refused
-returns-in-Refused c =
-    report-refused _ c.take_numbers-s.ensures c.requires c.if-collections-ge-MOST.false c.collect_all.ensures _ c.in-Refused.is
+pub returns-in-Err : goal.returns-in-Err
+returns-in-Err c =
+    rw c.number.ensures (report-refused _ c.take_numbers-s.ensures c.requires c.if-collections-ge-MOST.false c.collect_all.ensures _ c.in-Err.is)
