@@ -33,7 +33,7 @@ use Rattle.collector.specs.Alloc.{alloc_outcome}
 use Rattle.collector.specs.declared.Allocation.{Allocation}
 use Rattle.registers.specs.declared.Registers.{Registers}
 use Rattle.access.specs.Access.{pointer_of}
-use Rattle.registers.specs.Cells.{cells_of_registers, register_of, GoodValue, Good}
+use Rattle.registers.specs.Cells.{cells_of_registers, GoodValue, Good}
 use Rattle.registers.proofs.Values.{set-cells, set-good, values-valid, good-whole}
 use Rattle.command.specs.declared.answers.Answer.{Answer}
 use Rattle.command.specs.declared.answers.Answer.TheVariants as answer
@@ -130,6 +130,6 @@ module _ {w : List ℕ} {r : Registers} {roots : List ℕ} {n : ℕ} (l : Lent w
       unfolding valid value_cell
       pointer-good s = record { cell = rw (ap (λ (p : Ptr). p.heap) answered.2.pointer) (holds_at (new-valid (decode w) (cells_of_registers r) amount) answered.1); whole = tt; ranged = s }
 
-      pub alloc-acts : (moved s : Registers) (k : ℕ) → cells_of_registers moved ≡ cells_in roots' → Good moved → SFits w64 a.pointer.offset → s.cells ≡ put moved.cells k (register_of (Pointer a.pointer)) → Acts (alloc k amount) w r (answer.Alloc a) v s
+      pub alloc-acts : (moved s : Registers) (k : ℕ) → cells_of_registers moved ≡ cells_in roots' → Good moved → SFits w64 a.pointer.offset → s.cells ≡ put moved.cells k (Pointer a.pointer) → Acts (alloc k amount) w r (answer.Alloc a) v s
       unfolding value_cell
       alloc-acts moved s k from good fits now = same-acts answered.1 told answered.2 moved s k from (set-cells moved s k (Pointer a.pointer) now) (set-good moved s k (Pointer a.pointer) now good (pointer-good fits))

@@ -32,7 +32,7 @@ use Rattle.access.specs.declared.Loaded.TheVariants as loaded
 use Rattle.access.specs.declared.Stored.{Stored}
 use Rattle.access.specs.declared.Stored.TheVariants as stored
 use Rattle.registers.specs.declared.Registers.{Registers}
-use Rattle.registers.specs.Cells.{cells_of_registers, register_of, unset, GoodValue, Good}
+use Rattle.registers.specs.Cells.{cells_of_registers, unset, GoodValue, Good}
 use Rattle.registers.proofs.Values.{spelled-good, got_cell, got-good, set-cells, set-good}
 use Rattle.command.specs.declared.answers.Answer.{Answer}
 use Rattle.command.specs.declared.answers.Answer.TheVariants as answer
@@ -50,7 +50,7 @@ module _ {w : List ℕ} {r : Registers} {k a b o : ℕ} {t : Registers} (h : Hel
   unfolding step
   set-refused e = refuses h g (rw e)
 
-  pub set-done : (v : Value) → valid_words a b o ≡ true → Spelled a b o v → t.cells ≡ put r.cells k (register_of v) → Acts (set k a b o) w r answer.Set w t
+  pub set-done : (v : Value) → valid_words a b o ≡ true → Spelled a b o v → t.cells ≡ put r.cells k v → Acts (set k a b o) w r answer.Set w t
   unfolding step state_of
   set-done v e p is = answers (rw (e, set-cells r t k v is, p.cell)) tt h (set-good r t k v is g (spelled-good a b o v e p))
 
@@ -73,7 +73,7 @@ a-float v {n} {b} e f = let number : n ≡ of_bits binary64 b = rw e at f in rw 
 abbrev shown : ModelState → ModelFigure → Res (Line × ModelState)
 shown s f = ok (figure_line f, s)
 
-module _ {w : List ℕ} {r : Registers} (k : ℕ) (h : Held w) (g : Good r) (v : Value) (at : v ≡ (get_or r.cells k unset).value) where
+module _ {w : List ℕ} {r : Registers} (k : ℕ) (h : Held w) (g : Good r) (v : Value) (at : v ≡ get_or r.cells k unset) where
   pub figure-other : {a : Answer} {t : Registers} → ((n : Float) (b : ℕ) → v ≡ FloatV n b → ⊥) → (a ≡ answer.Refused 15) × (t ≡ r) → Acts (figure k) w r a w t
   unfolding step register state_of
   figure-other o = refuses h g (rw (← got_cell r k at, no-float v o))
@@ -128,7 +128,7 @@ module _ {w : List ℕ} {r : Registers} (k p d : ℕ) (h : Held w) (g : Good r) 
   unfolding step
   load-heapless e = refuses h g (rw (no-heap w r e))
 
-  module _ (l : 0 < length w) (v : Value) (at : v ≡ (get_or r.cells p unset).value) (t : Target) (e : target_answer t ≡ target_in (value_cell v) d) where
+  module _ (l : 0 < length w) (v : Value) (at : v ≡ get_or r.cells p unset) (t : Target) (e : target_answer t ≡ target_in (value_cell v) d) where
     load_is : step (load k p d) (state_of w r) ≡ (target_answer t >>= λ y. read (decode w) y >>= put_in w r k)
     unfolding step register state_of
     load_is = aimed w r l (get_or (cells_of_registers r) p blank) d (λ h y. read h y >>= put_in w r k) ∙ rw (← got_cell r p at, ← e)
@@ -144,7 +144,7 @@ module _ {w : List ℕ} {r : Registers} (k p d : ℕ) (h : Held w) (g : Good r) 
       unfolding loaded_cell
       load-refused f = refuses h g (rw (load-reads, f))
 
-      pub load-done : {u : Value} {a : Answer} {s : Registers} → x ≡ loaded.Value u → (a ≡ answer.Load u) × (s.cells ≡ put r.cells k (register_of u)) → Acts (load k p d) w r a w s
+      pub load-done : {u : Value} {a : Answer} {s : Registers} → x ≡ loaded.Value u → (a ≡ answer.Load u) × (s.cells ≡ put r.cells k u) → Acts (load k p d) w r a w s
       unfolding loaded_cell
       load-done {u} {s = s} f (is, now) =
           let good = loaded-good h l (pointer_of y) m f in
@@ -161,8 +161,8 @@ module _ {w : List ℕ} {r : Registers} (k p d : ℕ) (h : Held w) (g : Good r) 
   unfolding step
   store-heapless e = refuses h g (rw (no-heap w r e))
 
-  module _ (l : 0 < length w) (v : Value) (at : v ≡ (get_or r.cells p unset).value) (t : Target) (e : target_answer t ≡ target_in (value_cell v) d)
-      (u : Value) (here : u ≡ (get_or r.cells k unset).value) where
+  module _ (l : 0 < length w) (v : Value) (at : v ≡ get_or r.cells p unset) (t : Target) (e : target_answer t ≡ target_in (value_cell v) d)
+      (u : Value) (here : u ≡ get_or r.cells k unset) where
     store_is : step (store k p d) (state_of w r) ≡ (target_answer t >>= λ y. write (decode w) y (value_cell u) >>= kept w r)
     unfolding step register state_of
     store_is = aimed w r l (get_or (cells_of_registers r) p blank) d (λ h y. write h y (get_or (cells_of_registers r) k blank) >>= kept w r) ∙ rw (← got_cell r p at, ← e, ← got_cell r k here)

@@ -12,7 +12,7 @@ ghost use Rattle.model.specs.Run.{program_bounds};
 ghost use Rattle.theorems.specs.Program.{program_words, program_scratch};
 ghost use Rattle.value.specs.Value.{value_cell};
 ghost use Rattle.image.specs.Places.{sizes};
-ghost use Rattle.registers.specs.Cells.{register_of, Good};
+ghost use Rattle.registers.specs.Cells.{Good};
 ghost use Rattle.reader.specs.Answer.{model_command};
 ghost use Rattle.command.specs.declared.answers.Answer.TheVariants.{Load, Refused};
 ghost use Rattle.command.specs.State.{holding, heapless, Held, Ready};
@@ -51,17 +51,23 @@ fn refused(q: u64, registers: Registers) -> Acted
 // ---- Registers alone
 
 // 3 asks of the three words.
-fn set_register(registers: Registers, register: usize, tag: u64, payload: u64, offset: u64) -> Acted
+fn set_register(
+    mut registers: Registers,
+    register: usize,
+    tag: u64,
+    payload: u64,
+    offset: u64,
+) -> Acted
     requires { (register < 16) × Good registers }
     ensures { (w : List ℕ) → Held w → Acts (set register tag payload offset) w registers result.answer w result.registers }
 {
     if !value::is_valid(tag, payload, offset) {
         return refused(3, registers);
     }
-    let v = value::value_of(tag, payload, offset);
+    registers.set(register, value::value_of(tag, payload, offset));
     Acted {
         answer: Answer::Set,
-        registers: registers.set(register, v),
+        registers,
     }
 }
 
@@ -104,11 +110,11 @@ fn alloc_in(
     let mut roots = registers.words();
     match collector::alloc_formed(image, &mut roots, scratch, amount) {
         Ok(a) => {
-            let p = a.pointer;
-            let moved = Registers::from_words(roots);
+            let mut moved = Registers::from_words(&roots);
+            moved.set(register, Value::Pointer(a.pointer));
             Acted {
                 answer: Answer::Alloc(a),
-                registers: moved.set(register, Value::Pointer(p)),
+                registers: moved,
             }
         }
         Err(q) => refused(q.number(), registers),
@@ -149,13 +155,14 @@ fn target_of(v: Value, offset: i64) -> Target
 }
 
 // The value goes to answer and register as it was read.
-fn loaded(registers: Registers, register: usize, read: Value) -> Acted
+fn loaded(mut registers: Registers, register: usize, read: Value) -> Acted
     requires { register < 16 }
-    ensures { (result.answer ≡ Load read) × (result.registers.cells ≡ put registers.cells register (register_of read)) }
+    ensures { (result.answer ≡ Load read) × (result.registers.cells ≡ put registers.cells register read) }
 {
+    registers.set(register, read);
     Acted {
         answer: Answer::Load(read),
-        registers: registers.set(register, read),
+        registers,
     }
 }
 

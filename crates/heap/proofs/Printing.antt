@@ -1,12 +1,11 @@
 -- What was handed on and what is left are together as long as the listing.
 use mathlib.Core.Path.{◌≡◌, ap, ◌∙◌, sym}
-use mathlib.Core.Bool.{Bool, true, not}
+use mathlib.Core.Bool.{true, false, false≢true}
 use mathlib.Core.List.{List}
 use Prim.Native.Nat.{ℕ, ◌+◌, ◌*◌, ◌^◌, ◌≤◌, ◌<◌}
 use native.Mathlib.Omega.{arith}
 use lib.ListN.{length, take, length-append}
 use lib.Seq.{length-take-le}
-use borrow.Author.Tests.{not-true}
 use Rattle.model.specs.Listing.{longest_file, listing}
 use Rattle.listing.specs.declared.Run.{Run}
 use Rattle.listing.specs.Left.{left_of, Going, Fills}
@@ -22,8 +21,8 @@ pub record Printing (file image : List ℕ) (run : Run) (len : ℕ) : Type 0 whe
   pub counted : len + length (left_of file image run) ≡ length (listing file)
   pub few : len ≤ 16384 * run.at
 
-pub print-none : {file image : List ℕ} {run : Run} → Going file image run × (left_of file image run ≡ listing file) → Printing file image run 0
-print-none (g, e) = record { going = g; counted = omega (arith, ap length e); few = omega arith }
+pub print-none : {file image : List ℕ} {run : Run} {len : ℕ} → Going file image run × (left_of file image run ≡ listing file) → len ≡ 0 → Printing file image run len
+print-none (g, e) z = record { going = g; counted = omega (arith, z, ap length e); few = omega (arith, z) }
 
 module _ {file image : List ℕ} {run : Run} {len : ℕ} (p : Printing file image run len) where
   module _ {image' out : List ℕ} {run' : Run} {used : ℕ} (h : run.at < length file) (l : length out ≤ 16384) (f : Fills file image run image' run' out used) where
@@ -40,8 +39,8 @@ module _ {file image : List ℕ} {run : Run} {len : ℕ} (p : Printing file imag
           few = omega (arith, e, p.few, f.inside, f.further h, length-take-le used out f.inside);
         }
 
-  pub print-stopped : {written : Bool} → not written ≡ true → Prints file len written
-  print-stopped {written} n = record { most = omega (arith, p.counted); all = λ e. let z : ◌≡◌ {A = ℕ} 0 1 = cc (not-true written n) in absurd (omega arith) }
+  pub print-stopped : Prints file len false
+  print-stopped = record { most = omega (arith, p.counted); all = λ e. absurd (false≢true e) }
 
   pub print-done : length file ≤ run.at → Prints file len true
   print-done h =

@@ -2,7 +2,7 @@
 // write fails, the program says so on standard error and ends. Printed is then nothing, or the listing's beginning.
 #![tactic(auto)]
 
-ghost use Rattle.std.specs.Prelude.{◌≡◌, ◌+◌, ◌^◌, ◌<◌, ◌≤◌, length};
+ghost use Rattle.std.specs.Prelude.{◌≡◌, true, false, ◌+◌, ◌^◌, ◌<◌, ◌≤◌, length, MatchResult, IfOk};
 ghost use Rattle.model.specs.Listing.{longest_file};
 ghost use Rattle.heap.specs.Bytes.{Comes, Stops, Prints};
 
@@ -26,104 +26,74 @@ fn say(rt: &HostRuntime, what: &str, error: &io::Error) {
 
 // ---- Standard input
 
-// How many bytes stand in front of the buffer, how many of them the last read brought, and whether it did not fail.
+// How many bytes stand in front of the buffer, and how many of them the last read brought.
 #[derive(Clone, Copy)]
 struct Input {
     len: usize,
     came: usize,
-    is_read: bool,
 }
 
 // One read, behind the bytes of those before it.
-fn read_more(rt: &HostRuntime, file: &mut [u8], len: usize) -> Input
+fn read_more(rt: &HostRuntime, file: &mut [u8], len: usize) -> io::Result<Input>
     requires { len ≤ length file.old }
-    ensures { Comes file.old len result.came file.new result.len }
+    ensures { MatchResult result (λ input. Comes file.old len input.came file.new input.len) (λ _. Comes file.old len 0 file.new len) }
 {
-    match rt.stdin().read(&mut file[len..]) {
-        Ok(came) => Input {
-            len: len + came,
-            came,
-            is_read: true,
-        },
-        Err(e) => {
-            say(rt, "standard input", &e);
-            Input {
-                len,
-                came: 0,
-                is_read: false,
-            }
-        }
-    }
+    let came = rt.stdin().read(&mut file[len..])?;
+    Ok(Input {
+        len: len + came,
+        came,
+    })
 }
 
 // To the end of the input, or until `file` is full. A pipe hands over a part at a time.
-fn read_all(rt: &HostRuntime, file: &mut [u8]) -> Input
+fn read_all(rt: &HostRuntime, file: &mut [u8]) -> io::Result<Input>
     requires { longest_file < length file.old }
-    ensures { Stops file.new result.len result.came }
+    ensures { IfOk result (λ input. Stops file.new input.len input.came) }
 {
-    let mut input = read_more(rt, file, 0);
+    let mut input = read_more(rt, file, 0)?;
     while input.came > 0 && input.len < file.len() {
-        input = read_more(rt, file, input.len);
+        input = read_more(rt, file, input.len)?;
     }
-    input
+    Ok(input)
 }
 
 // ---- Standard output
 
-// How many bytes were handed on, and whether no write failed.
-#[derive(Clone, Copy)]
-struct Output {
-    len: usize,
-    written: bool,
-}
-
 // What is handed on is counted where it is handed on.
-fn write_more(rt: &HostRuntime, bytes: &[u8], len: usize) -> Output
-    requires { len + length bytes.now < 2 ^ 64 }
-    ensures { result.len ≡ len + length bytes.now }
+fn write_more(rt: &HostRuntime, bytes: &[u8], len: &mut usize) -> io::Result<()>
+    requires { len.old + length bytes.now < 2 ^ 64 }
+    ensures { len.new ≡ len.old + length bytes.now }
 {
-    let written = match rt.stdout().write_all(bytes) {
-        Ok(()) => true,
-        Err(e) => {
-            say(rt, "standard output", &e);
-            false
-        }
-    };
-    Output {
-        len: len + bytes.len(),
-        written,
-    }
+    *len += bytes.len();
+    rt.stdout().write_all(bytes)
 }
 
-// The file's listing, by the bufferful.
-fn print_all(rt: &HostRuntime, file: &[u8]) -> Output
-    requires { length file.now ≤ longest_file + 1 }
-    ensures { Prints file.now result.len result.written }
+// The file's listing, by the bufferful; how many bytes were handed on, also when a write failed.
+fn print_all(rt: &HostRuntime, file: &[u8], len: &mut usize) -> io::Result<()>
+    requires file_in_bounds { length file.now ≤ longest_file + 1 }
+    requires len_zero { len.old ≡ 0 }
+    ensures { MatchResult result (λ _. Prints file.now len.new true) (λ _. Prints file.now len.new false) }
 {
     let mut image = [0u64; IMAGE];
     let mut scratch = [0u64; SCRATCH];
     let mut out = [0u8; OUT];
     let mut run = listing::begin();
-    let mut len = 0;
     while run.at < file.len() {
-        let filled = listing::fill(file, &mut image, &mut scratch, run, &mut out);
-        let used = filled.used;
-        let more = write_more(rt, &out[..used], len);
-        if !more.written {
-            return more;
-        }
-        len = more.len;
-        run = filled.run;
+        let used = listing::fill(file, &mut image, &mut scratch, &mut run, &mut out);
+        write_more(rt, &out[..used], len)?;
     }
-    Output { len, written: true }
+    Ok(())
 }
 
 fn main(rt: HostRuntime) {
     let mut file = [0u8; FILE];
-    let input = read_all(&rt, &mut file);
-    if !input.is_read {
-        return;
+    match read_all(&rt, &mut file) {
+        Ok(input) => {
+            let mut len = 0;
+            if let Err(e) = print_all(&rt, &file[..input.len], &mut len) {
+                say(&rt, "standard output", &e);
+            }
+        }
+        Err(e) => say(&rt, "standard input", &e),
     }
-    let len = input.len;
-    print_all(&rt, &file[..len]);
 }

@@ -23,12 +23,9 @@ fn word(w: &[u8], out: &mut [u8], at: usize) -> usize
     requires { at + length w.now ≤ length out.old }
     ensures { Wrote w.now out.old at out.new result }
 {
-    let mut i = 0;
-    while i < w.len() {
-        out[at + i] = w[i];
-        i += 1;
-    }
-    at + i
+    let end = at + w.len();
+    out[at..end].copy_from_slice(w);
+    end
 }
 
 // Each after a space.
@@ -37,10 +34,8 @@ fn each_spaced(n: &[u64], out: &mut [u8], at: usize) -> usize
     ensures { Wrote (spaced n.now) out.old at out.new result }
 {
     let mut end = at;
-    let mut i = 0;
-    while i < n.len() {
-        end = figure::text::spaced(n[i], out, end);
-        i += 1;
+    for x in n {
+        end = figure::text::spaced(*x, out, end);
     }
     end
 }
@@ -68,7 +63,7 @@ fn alloc_text(a: Allocation, out: &mut [u8], at: usize) -> usize
     let p = a.pointer;
     let young = a.nursery;
     let old = a.elder;
-    let place = word(&[b'a', b'l', b'l', b'o', b'c'], out, at);
+    let place = word(b"alloc", out, at);
     let sign = each_spaced(&[p.heap as u64, p.base], out, place);
     let offset = figure::text::byte(b' ', out, sign);
     let counts = figure::text::signed(p.offset, out, offset);
@@ -84,7 +79,7 @@ fn load_text(v: Value, out: &mut [u8], at: usize) -> usize
     ensures { Wrote (line_text (answer_line (Load v))) out.old at out.new result }
 {
     let n = cell_numbers(v);
-    let cell = word(&[b'l', b'o', b'a', b'd'], out, at);
+    let cell = word(b"load", out, at);
     each_spaced(&n, out, cell)
 }
 
@@ -93,7 +88,7 @@ fn report_text(s: Statistics, out: &mut [u8], at: usize) -> usize
     ensures { Wrote (line_text (answer_line (Report s))) out.old at out.new result }
 {
     let n = <[u64; 11]>::from(s);
-    let rest = word(&[b'r', b'e', b'p', b'o', b'r', b't'], out, at);
+    let rest = word(b"report", out, at);
     each_spaced(&n, out, rest)
 }
 
@@ -101,7 +96,7 @@ fn figure_text(f: Figure, out: &mut [u8], at: usize) -> usize
     requires { at + longest_text ≤ length out.old }
     ensures { Wrote (line_text (answer_line (FigureOf f))) out.old at out.new result }
 {
-    let space = word(&[b'f', b'i', b'g', b'u', b'r', b'e'], out, at);
+    let space = word(b"figure", out, at);
     let number = figure::text::byte(b' ', out, space);
     figure::figure_text(f, out, number)
 }
@@ -110,7 +105,7 @@ fn refusal_text(q: u64, out: &mut [u8], at: usize) -> usize
     requires { at + longest_text ≤ length out.old }
     ensures { Wrote (line_text (no_line q)) out.old at out.new result }
 {
-    let number = word(&[b'n', b'o'], out, at);
+    let number = word(b"no", out, at);
     figure::text::spaced(q, out, number)
 }
 
@@ -119,11 +114,11 @@ fn text(answer: Answer, out: &mut [u8], at: usize) -> usize
     ensures { Wrote (line_text (answer_line answer)) out.old at out.new result }
 {
     match answer {
-        Answer::New => word(&[b'n', b'e', b'w'], out, at),
+        Answer::New => word(b"new", out, at),
         Answer::Alloc(a) => alloc_text(a, out, at),
-        Answer::Set => word(&[b's', b'e', b't'], out, at),
+        Answer::Set => word(b"set", out, at),
         Answer::Load(v) => load_text(v, out, at),
-        Answer::Store => word(&[b's', b't', b'o', b'r', b'e'], out, at),
+        Answer::Store => word(b"store", out, at),
         Answer::Report(s) => report_text(s, out, at),
         Answer::Figure(f) => figure_text(f, out, at),
         Answer::Refused(q) => refusal_text(q, out, at),

@@ -12,14 +12,13 @@ use Rattle.model.specs.Res.{ok, refuse}
 use Rattle.model.specs.Command.{Command}
 use Rattle.model.specs.Run.{State as ModelState, Line, no_line, step, stepped}
 use Rattle.model.specs.Listing.{line, lines_from}
-use Rattle.figure.specs.Written.{Wrote}
 use Rattle.command.specs.declared.answers.Answer.{Answer}
 use Rattle.command.specs.declared.State.{State}
-use Rattle.command.specs.Answers.{answer_line}
+use Rattle.command.specs.declared.answers.Answer.TheVariants.{Refused}
 use Rattle.command.specs.State.{state_in}
 use Rattle.command.specs.Steps.{Performs}
 use Rattle.listing.specs.declared.Run.{Run}
-use Rattle.listing.specs.Left.{stands_at, commands_from, listing_from, left_of, Going, Advances}
+use Rattle.listing.specs.Left.{stands_at, commands_from, listing_from, left_of, Going, Answers}
 use Rattle.listing.proofs.Standing.{commands-none, stood}
 
 -- What is left
@@ -37,26 +36,22 @@ pub left-none : (file : List ℕ) (n : ℕ) (s : ModelState) → listing_from fi
 unfolding listing_from flat lines_from
 left-none file n s = rw (commands-none file)
 
--- An advance, by what stands there
+-- A step, by what stands there
 
-module _ {file buffer out out' : List ℕ} {r : Run} {used end : ℕ} (g : Going file buffer r) (h : r.at < length file) where
-  pub advance-command : {c : Command} {k : ℕ} {a : Answer} {s : State} {buffer' : List ℕ} → ok (some (c, k)) ≡ stands_at file r.at → Performs c buffer r.state a buffer' s → Wrote (line r.number (answer_line a)) out used out' end → Advances file buffer r out used buffer' (record { at = k; number = r.number + 1; state = s }) out' end
+module _ {file buffer : List ℕ} {r : Run} (g : Going file buffer r) (h : r.at < length file) where
+  pub step-command : {c : Command} {k : ℕ} {a : Answer} {s : State} {buffer' : List ℕ} → ok (some (c, k)) ≡ stands_at file r.at → Performs c buffer r.state a buffer' s → Answers file buffer r a buffer' (record { at = k; number = r.number + 1; state = s })
   unfolding left_of listing_from
-  advance-command {c = c} {k = k} {a = a} e p w =
+  step-command {c = c} {k = k} e p =
       let t = stood file r.at h e in
       record {
-        text = line r.number (answer_line a);
-        wrote = w;
         listed = rw t.1 (next-lines r.number (state_in buffer r.state) c (commands_from file k).0 (commands_from file k).1 p.stepping);
         further = t.0.further;
         going = record { within = t.0.within; counted = omega (arith, g.counted, t.0.further); ready = p.ready };
       }
 
-  pub advance-malformed : {q : ℕ} → refuse q ≡ stands_at file r.at → Wrote (line r.number (no_line 12)) out used out' end → Advances file buffer r out used buffer (record { at = length file; number = r.number + 1; state = r.state }) out' end
+  pub step-malformed : {q : ℕ} → refuse q ≡ stands_at file r.at → Answers file buffer r (Refused 12) buffer (record { at = length file; number = r.number + 1; state = r.state })
   unfolding left_of
-  advance-malformed e w = record {
-    text = line r.number (no_line 12);
-    wrote = w;
+  step-malformed e = record {
     listed = rw (left-none file (r.number + 1) (state_in buffer r.state), left-malformed file r.at r.number (state_in buffer r.state) h (stood file r.at h e)) (append-nil (line r.number (no_line 12)));
     further = h;
     going = record { within = omega arith; counted = omega (arith, g.counted, h); ready = g.ready };

@@ -5,9 +5,11 @@ use Rattle.model.specs.Lists.{flat}
 use Rattle.model.specs.Res.{Res, ok, refuse}
 use Rattle.model.specs.Command.{Command, parse_all}
 use Rattle.model.specs.Run.{State}
-use Rattle.model.specs.Listing.{lines_from, longest_file, listing}
+use Rattle.model.specs.Listing.{line, lines_from, longest_file, listing}
 use Rattle.figure.specs.Written.{Wrote}
 use Rattle.reader.specs.Answer.{next_at}
+use Rattle.command.specs.declared.answers.Answer.{Answer}
+use Rattle.command.specs.Answers.{answer_line}
 use Rattle.command.specs.State.{state_in, Ready}
 use Rattle.listing.specs.declared.Run.{Run}
 
@@ -41,6 +43,12 @@ pub record Going (file buffer : List ℕ) (r : Run) : Type 0 where
   pub within : r.at ≤ length file
   pub counted : r.number ≤ r.at + 1
   pub ready : Ready buffer r.state
+
+-- one command's answer: its line stood before what is left now
+pub record Answers (file buffer : List ℕ) (r : Run) (a : Answer) (buffer' : List ℕ) (r' : Run) : Type 0 where
+  pub listed : line r.number (answer_line a) ++ left_of file buffer' r' ≡ left_of file buffer r
+  pub further : r.at < r'.at
+  pub going : Going file buffer' r'
 
 -- one command's line was written at a place of `out`
 pub record Advances (file buffer : List ℕ) (r : Run) (out : List ℕ) (at : ℕ) (buffer' : List ℕ) (r' : Run) (out' : List ℕ) (end : ℕ) : Type 0 where

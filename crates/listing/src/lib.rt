@@ -6,7 +6,7 @@ ghost use Rattle.model.specs.Listing.{listing};
 ghost use Rattle.theorems.specs.Program.{program_words, program_scratch};
 ghost use Rattle.reader.specs.Answer.{next_answer};
 ghost use Rattle.lines.specs.Longest.{longest_line};
-ghost use Rattle.listing.specs.Left.{stands_at, left_of, Going, Advances, Fills};
+ghost use Rattle.listing.specs.Left.{stands_at, left_of, Going, Answers, Advances, Fills};
 
 use command::{Answer, State};
 use question::Question;
@@ -24,13 +24,6 @@ pub struct Run {
     pub at: usize,
     pub number: u64,
     pub state: State,
-}
-
-// The run after what was written, and the place behind that.
-#[derive(Clone, Copy)]
-pub struct Filled {
-    pub run: Run,
-    pub used: usize,
 }
 
 // At the first command, without a heap.
@@ -61,72 +54,64 @@ fn stands_at(file: &[u8], at: usize) -> Option<Result<(Command, usize), Question
     None
 }
 
-// One command and its line.
-fn advance(
-    file: &[u8],
-    buffer: &mut [u64],
-    scratch: &mut [u64],
-    run: Run,
-    out: &mut [u8],
-    used: usize,
-) -> Filled
-    requires going { Going file.now buffer.old run }
-    requires at_in_bounds { run.at < length file.now }
+// One command: its answer, and the run behind it.
+fn step(file: &[u8], buffer: &mut [u64], scratch: &mut [u64], run: &mut Run) -> Answer
+    requires going { Going file.now buffer.old run.old }
+    requires at_in_bounds { run.old.at < length file.now }
     requires program_words_in_bounds { (program_words ≤ length buffer.old) × (program_scratch ≤ length scratch.old) }
-    requires longest_line_in_bounds { used + longest_line ≤ length out.old }
-    ensures { Advances file.now buffer.old run out.old used buffer.new result.run out.new result.used }
+    ensures { Answers file.now buffer.old run.old result buffer.new run.new }
 {
-    let number = run.number;
-    let next = number + 1;
-    let state = run.state;
+    run.number += 1;
     match stands_at(file, run.at).unwrap_or(Err(Question::Command)) {
         Ok((command, behind)) => {
-            let p = command::perform(buffer, scratch, state, command);
-            let answer = p.answer;
-            let after = p.state;
-            let end = lines::line(number, answer, out, used);
-            Filled {
-                run: Run {
-                    at: behind,
-                    number: next,
-                    state: after,
-                },
-                used: end,
-            }
+            let p = command::perform(buffer, scratch, run.state, command);
+            run.at = behind;
+            run.state = p.state;
+            p.answer
         }
         Err(_) => {
-            let end = lines::line(number, Answer::Refused(12), out, used);
-            Filled {
-                run: Run {
-                    at: file.len(),
-                    number: next,
-                    state,
-                },
-                used: end,
-            }
+            run.at = file.len();
+            Answer::Refused(12)
         }
     }
 }
 
-// As many lines as `out` surely has room for.
+// One command and its line; the place behind that.
+fn advance(
+    file: &[u8],
+    buffer: &mut [u64],
+    scratch: &mut [u64],
+    run: &mut Run,
+    out: &mut [u8],
+    used: usize,
+) -> usize
+    requires going { Going file.now buffer.old run.old }
+    requires at_in_bounds { run.old.at < length file.now }
+    requires program_words_in_bounds { (program_words ≤ length buffer.old) × (program_scratch ≤ length scratch.old) }
+    requires longest_line_in_bounds { used + longest_line ≤ length out.old }
+    ensures { Advances file.now buffer.old run.old out.old used buffer.new run.new out.new result }
+{
+    let number = run.number;
+    let answer = step(file, buffer, scratch, run);
+    lines::line(number, answer, out, used)
+}
+
+// As many lines as `out` surely has room for; the place behind them.
 pub fn fill(
     file: &[u8],
     buffer: &mut [u64],
     scratch: &mut [u64],
-    run: Run,
+    run: &mut Run,
     out: &mut [u8],
-) -> Filled
-    requires going { Going file.now buffer.old run }
+) -> usize
+    requires going { Going file.now buffer.old run.old }
     requires program_words_in_bounds { (program_words ≤ length buffer.old) × (program_scratch ≤ length scratch.old) }
     requires longest_line_in_bounds { longest_line ≤ length out.old }
-    ensures { Fills file.now buffer.old run buffer.new result.run out.new result.used }
+    ensures { Fills file.now buffer.old run.old buffer.new run.new out.new result }
 {
-    let mut next = run;
     let mut used = 0;
-    while next.at < file.len() && used + LINE <= out.len() {
-        let f = advance(file, buffer, scratch, next, out, used);
-        next = f.run;
-        used = f.used;
+    while run.at < file.len() && used + LINE <= out.len() {
+        used = advance(file, buffer, scratch, run, out, used);
     }
-    Filled { run: next, used }
+    used
 }

@@ -15,7 +15,7 @@ use Rattle.value.specs.declared.Value.{Value}
 use Rattle.value.specs.Value.{value_cell, Spelled}
 use Rattle.value.proofs.RoundTrip.{three-words}
 use Rattle.registers.specs.declared.Registers.{Registers}
-use Rattle.registers.specs.Cells.{cells_of_registers, register_of, Good}
+use Rattle.registers.specs.Cells.{cells_of_registers, Good}
 use Rattle.registers.proofs.Values.{spelled-good, set-cells, set-good}
 
 -- three words stored after the first 3 * i
@@ -101,7 +101,7 @@ module _ (w : List ℕ) (l : length w ≡ 48) where
       valid-here = both.0
 
       module _ {v : Value} (p : Spelled (get_or w (3 * i) 0) (get_or w (3 * i + 1) 0) (get_or w (3 * i + 2) 0) v) where
-        pub loaded-more : (t : Registers) → t.cells ≡ set s.cells i (register_of v) → Loaded w t (i + 1)
+        pub loaded-more : (t : Registers) → t.cells ≡ set s.cells i v → Loaded w t (i + 1)
         loaded-more t e =
             let cs = cells_of_registers s in
             let is = set-cells s t i v e in

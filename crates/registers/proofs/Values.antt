@@ -10,9 +10,8 @@ use Rattle.theorems.proofs.Lists.{and_both}
 use Rattle.value.specs.declared.Value.{Value}
 use Rattle.value.specs.declared.Value.TheVariants.{Uninitialized}
 use Rattle.value.specs.Value.{value_cell, Spelled}
-use Rattle.registers.specs.declared.Register.{Register}
 use Rattle.registers.specs.declared.Registers.{Registers}
-use Rattle.registers.specs.Cells.{register_cell, cells_of_registers, register_of, unset, GoodValue, Good}
+use Rattle.registers.specs.Cells.{cells_of_registers, unset, GoodValue, Good}
 
 unset-good : GoodValue Uninitialized
 unfolding value_cell blank valid valid_plain
@@ -28,12 +27,12 @@ same_length f g l n e = length-map l f ∙ sym (length-map l g) ∙ e
 
 -- registers at first
 
-pub first-cells : (n : ℕ) → map register_cell (replicate n unset) ≡ replicate n blank
+pub first-cells : (n : ℕ) → map value_cell (replicate n unset) ≡ replicate n blank
 unfolding value_cell
 first-cells zero = refl
 first-cells (suc n) = ap (blank ∷◌) (first-cells n)
 
-first-values : (n k : ℕ) → GoodValue (get_or (replicate n unset) k unset).value
+first-values : (n k : ℕ) → GoodValue (get_or (replicate n unset) k unset)
 first-values zero k = unset-good
 first-values (suc n) zero = unset-good
 first-values (suc n) (suc k) = first-values n k
@@ -43,30 +42,30 @@ first_good = record { values = first-values 16 }
 
 -- one register read
 
-module _ (s : Registers) (r : ℕ) {v : Value} (e : v ≡ (get_or s.cells r unset).value) where
+module _ (s : Registers) (r : ℕ) {v : Value} (e : v ≡ get_or s.cells r unset) where
   pub got_cell : value_cell v ≡ get_or (cells_of_registers s) r blank
   unfolding value_cell
-  got_cell = rw e (sym (get_or-map register_cell s.cells r unset))
+  got_cell = rw e (sym (get_or-map value_cell s.cells r unset))
 
   pub got-good : Good s → GoodValue v
   got-good g = rw e (g.values r)
 
 -- one register set
 
-cells-set : (xs : List Register) (r : ℕ) (v : Value) → map register_cell (set xs r (register_of v)) ≡ set (map register_cell xs) r (value_cell v)
+cells-set : (xs : List Value) (r : ℕ) (v : Value) → map value_cell (set xs r v) ≡ set (map value_cell xs) r (value_cell v)
 cells-set [] r v = refl
 cells-set (x ∷ xs) zero v = refl
-cells-set (x ∷ xs) (suc r) v = ap (register_cell x ∷◌) (cells-set xs r v)
+cells-set (x ∷ xs) (suc r) v = ap (value_cell x ∷◌) (cells-set xs r v)
 
-values-set : (xs : List Register) (r : ℕ) (v : Value) → ((k : ℕ) → GoodValue (get_or xs k unset).value) → GoodValue v
-    → (k : ℕ) → GoodValue (get_or (set xs r (register_of v)) k unset).value
+values-set : (xs : List Value) (r : ℕ) (v : Value) → ((k : ℕ) → GoodValue (get_or xs k unset)) → GoodValue v
+    → (k : ℕ) → GoodValue (get_or (set xs r v) k unset)
 values-set [] r v g n k = g k
 values-set (x ∷ xs) zero v g n zero = n
 values-set (x ∷ xs) zero v g n (suc k) = g (suc k)
 values-set (x ∷ xs) (suc r) v g n zero = g zero
 values-set (x ∷ xs) (suc r) v g n (suc k) = values-set xs r v (λ j. g (suc j)) n k
 
-module _ (s t : Registers) (r : ℕ) (v : Value) (e : t.cells ≡ set s.cells r (register_of v)) where
+module _ (s t : Registers) (r : ℕ) (v : Value) (e : t.cells ≡ set s.cells r v) where
   pub set-cells : cells_of_registers t ≡ set (cells_of_registers s) r (value_cell v)
   set-cells = rw e (cells-set s.cells r v)
 
@@ -75,7 +74,7 @@ module _ (s t : Registers) (r : ℕ) (v : Value) (e : t.cells ≡ set s.cells r 
 
 -- good registers' words are whole cells
 
-pub values-valid : (xs : List Register) → ((k : ℕ) → GoodValue (get_or xs k unset).value) → all_valid (map register_cell xs) ≡ true
+pub values-valid : (xs : List Value) → ((k : ℕ) → GoodValue (get_or xs k unset)) → all_valid (map value_cell xs) ≡ true
 unfolding all_valid
 values-valid [] g = refl
 values-valid (x ∷ xs) g = and_both _ _ (g zero).cell (values-valid xs (λ k. g (suc k)))

@@ -4,19 +4,13 @@
 ghost use Rattle.std.specs.Prelude.{◌≡◌, true, ◌<◌, get_or, replicate, set};
 ghost use Rattle.model.specs.Records.{blank, cell_words, whole_cells};
 ghost use Rattle.model.specs.Calls.{cells_in};
-ghost use Rattle.registers.specs.Cells.{register_of, unset, cells_of_registers, Good};
+ghost use Rattle.registers.specs.Cells.{unset, cells_of_registers, Good};
 
 use value::{Value, encode, value_of};
 
-// Each value stands in a struct.
-#[derive(Clone, Copy)]
-pub struct Register {
-    pub value: Value,
-}
-
 #[derive(Clone, Copy)]
 pub struct Registers {
-    pub cells: [Register; 16],
+    pub cells: [Value; 16],
 }
 
 impl Registers {
@@ -26,61 +20,49 @@ impl Registers {
         ensures cells { cells_of_registers result ≡ replicate 16 blank }
         ensures good { Good result }
     {
-        let unset = Register {
-            value: Value::Uninitialized,
-        };
-        let cells = [unset; Registers::COUNT];
-        Self { cells }
+        Self {
+            cells: [Value::Uninitialized; Registers::COUNT],
+        }
     }
 
-    pub fn get(self, r: usize) -> Value
+    pub fn get(&self, r: usize) -> Value
         requires { r < 16 }
-        ensures { result ≡ (get_or self.cells r unset).value }
+        ensures { result ≡ get_or self.now.cells r unset }
     {
-        let x = self.cells[r];
-        let v = x.value;
-        v
+        self.cells[r]
     }
 
-    pub fn set(mut self, r: usize, v: Value) -> Self
+    pub fn set(&mut self, r: usize, v: Value)
         requires { r < 16 }
-        ensures { result.cells ≡ set self.cells r (register_of v) }
+        ensures { self.new.cells ≡ set self.old.cells r v }
     {
-        let x = Register { value: v };
-        self.cells[r] = x;
-        self
+        self.cells[r] = v;
     }
 
     // The roots: three words a register.
-    pub fn words(self) -> [u64; 48]
-        ensures words { result ≡ cell_words (cells_of_registers self) }
-        ensures whole { Good self → whole_cells result ≡ true }
+    pub fn words(&self) -> [u64; 48]
+        ensures words { result ≡ cell_words (cells_of_registers self.now) }
+        ensures whole { Good self.now → whole_cells result ≡ true }
     {
         let mut w = [0u64; 48];
-        let mut i = 0;
-        while i < Registers::COUNT {
-            let v = self.get(i);
-            let x = encode(v);
+        for i in 0..Registers::COUNT {
+            let x = encode(self.get(i));
             w[3 * i] = x.tag;
             w[3 * i + 1] = x.payload;
             w[3 * i + 2] = x.offset;
-            i += 1;
         }
         w
     }
 
     // The registers of words that are valid cells.
-    pub fn from_words(w: [u64; 48]) -> Self
-        requires { whole_cells w ≡ true }
-        ensures cells { cells_of_registers result ≡ cells_in w }
+    pub fn from_words(w: &[u64; 48]) -> Self
+        requires { whole_cells w.now ≡ true }
+        ensures cells { cells_of_registers result ≡ cells_in w.now }
         ensures good { Good result }
     {
         let mut s = Registers::new();
-        let mut i = 0;
-        while i < Registers::COUNT {
-            let v = value_of(w[3 * i], w[3 * i + 1], w[3 * i + 2]);
-            s = s.set(i, v);
-            i += 1;
+        for i in 0..Registers::COUNT {
+            s.set(i, value_of(w[3 * i], w[3 * i + 1], w[3 * i + 2]));
         }
         s
     }

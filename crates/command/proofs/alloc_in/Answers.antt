@@ -32,7 +32,7 @@ returns-in-Ok c =
     let asked = rw (to_z-of_z w64 c.args.amount c.ranges.amount) at c.alloc_formed.ensures in
     let at = c.in-Ok.is in
     -- the walk tells of the answer's fields that the offset is an i64
-    alloc-acts (lent (goal.at.returns-in-Ok c).After-words-roots) _ _ _ _ asked at c.from_words-moved.result c.set.result _ c.from_words-moved.ensures.cells c.from_words-moved.ensures.good (record { sfits = c.in-Ok.known_told-1-own.given.0.1.1.0.1.1.1.1.0.1 }) c.set.ensures
+    alloc-acts (lent (goal.at.returns-in-Ok c).After-words-roots) _ _ _ _ asked at c.from_words-moved.result c.set.new.self _ c.from_words-moved.ensures.cells c.from_words-moved.ensures.good (record { sfits = c.in-Ok.known_told-1-own.given.0.1.1.0.1.1.1.1.0.1 }) c.set.ensures
 
 pub returns-in-Err : goal.returns-in-Err
 returns-in-Err c =

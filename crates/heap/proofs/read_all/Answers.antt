@@ -4,8 +4,7 @@ use Rattle.heap.proofs.read_all.Goals as goal
 
 pub loop-input-smaller : goal.loop-input-smaller
 loop-input-smaller c =
-    let more = c.read_more-input-in-loop-input in
-    comes-less c.loop-input.input.came (search rules) (search rules) more.ensures
+    comes-less c.loop-input.input.came (search rules) (search rules) c.in_ok-input-2.ensures
 
 pub returns-else-input-file : goal.returns-else-input-file
 returns-else-input-file c =

@@ -1,26 +1,13 @@
-use mathlib.Core.Path.{◌≡◌}
-use borrow.Author.Rules.{rules}
-use Rattle.reader.specs.Answer.{placed_answer}
-use Rattle.listing.specs.Left.{stands_at}
-use Rattle.listing.proofs.Standing.{never_none, registers-below-16}
-use Rattle.listing.proofs.Advancing.{advance-command, advance-malformed}
+use Rattle.model.specs.Listing.{line}
+use Rattle.command.specs.Answers.{answer_line}
 use Rattle.listing.proofs.advance.Goals as goal
-use Rattle.listing.proofs.advance.Goals.{After-unwrap_or}
 
-stood_there : (c : After-unwrap_or) → placed_answer c.unwrap_or.result ≡ stands_at c.args.file.now c.args.run.at
-stood_there c = rw c.unwrap_or.ensures (never_none _ _ c.requires.at_in_bounds _ c.stands_at.ensures)
-
-pub perform-p-requires : goal.perform-p-requires
-perform-p-requires c = record {
-  ready = c.requires.going.ready;
-  program_words_in_bounds = (search rules, search rules);
-  command_value = registers-below-16 _ _ c.requires.at_in_bounds (rw c.in-Ok.is at (stood_there (goal.at.perform-p-requires c).After-unwrap_or));
-}
-
-pub returns-in-Ok : goal.returns-in-Ok
-returns-in-Ok c =
-    advance-command c.requires.going c.requires.at_in_bounds (rw c.in-Ok.is at (stood_there (goal.at.returns-in-Ok c).After-unwrap_or)) c.perform-p.ensures c.line-end.ensures
-
-pub returns-in-Err : goal.returns-in-Err
-returns-in-Err c =
-    advance-malformed c.requires.going c.requires.at_in_bounds (rw c.in-Err.is at (stood_there (goal.at.returns-in-Err c).After-unwrap_or)) c.line-end-in-Err.ensures
+pub returns : goal.returns
+returns c =
+    let s = c.step-answer in record {
+      text = line c.args.run.now.number (answer_line s.result);
+      wrote = c.line.ensures;
+      listed = s.ensures.listed;
+      further = s.ensures.further;
+      going = s.ensures.going;
+    }

@@ -3,23 +3,23 @@ use borrow.Author.Rules.{rules}
 use Rattle.listing.proofs.Filling.{fill_none, fill_more, fill_done}
 use Rattle.listing.proofs.fill.Goals as goal
 
-pub loop-next-init : goal.loop-next-init
-loop-next-init c = search (fill_none, rules)
+pub loop-run-init : goal.loop-run-init
+loop-run-init c = search (fill_none, rules)
 
-pub advance-f-requires : goal.advance-f-requires
-advance-f-requires c = record {
-  going = c.loop-next.invariant.0.going;
+pub advance-used-requires : goal.advance-used-requires
+advance-used-requires c = record {
+  going = c.loop-run.invariant.0.going;
   at_in_bounds = search rules;
   program_words_in_bounds = (search rules, search rules);
   longest_line_in_bounds = search rules;
 }
 
-pub loop-next-preserved : goal.loop-next-preserved
-loop-next-preserved c =
-    (fill_more c.loop-next.invariant.0 (search rules) c.advance-f.ensures, search rules, search rules, search rules)
+pub loop-run-preserved : goal.loop-run-preserved
+loop-run-preserved c =
+    (fill_more c.loop-run.invariant.0 (search rules) c.advance-used.ensures, search rules, search rules, search rules)
 
 pub returns-else-used-out : goal.returns-else-used-out
-returns-else-used-out c = fill_done c.loop-next.invariant.0 (search rules) (inr (search rules))
+returns-else-used-out c = fill_done c.loop-run.invariant.0 (search rules) (inr (search rules))
 
-pub returns-after-loop-next : goal.returns-after-loop-next
-returns-after-loop-next c = fill_done c.loop-next.invariant.0 (search rules) (inl (search rules))
+pub returns-after-loop-run : goal.returns-after-loop-run
+returns-after-loop-run c = fill_done c.loop-run.invariant.0 (search rules) (inl (search rules))

@@ -6,20 +6,18 @@ use Rattle.registers.proofs.Registers.from_words.Goals as goal
 use Rattle.registers.proofs.Registers.from_words.Goals.{Start}
 
 -- forty-eight words
-long : (s : Start) → length s.args.w ≡ 48
+long : (s : Start) → length s.args.w.now ≡ 48
 long s = search rules
 
 pub loop-i-init : goal.loop-i-init
-loop-i-init c = loaded-none c.args.w (long (goal.at.loop-i-init c).Start) c.requires c.new-s.ensures.cells c.new-s.ensures.good
+loop-i-init c = loaded-none c.args.w.now (long (goal.at.loop-i-init c).Start) c.requires c.new-s.ensures.cells c.new-s.ensures.good
 
-pub value_of-v-requires : goal.value_of-v-requires
-value_of-v-requires c = valid-here _ (long (goal.at.value_of-v-requires c).Start) c.loop-i.invariant c.loop-i-test.true
+pub value_of-requires : goal.value_of-requires
+value_of-requires c = valid-here _ (long (goal.at.value_of-requires c).Start) c.loop-i.invariant c.loop-i-test.true
 
 pub loop-i-preserved : goal.loop-i-preserved
 loop-i-preserved c =
-    let turn = c.before.before.before in
-    let r = c.set-s in
-    loaded-more _ (long turn.before.before) turn.loop-i.invariant c.loop-i-test.true c.value_of-v.ensures r.result r.ensures
+    loaded-more _ (long (goal.at.loop-i-preserved c).Start) c.loop-i.invariant c.loop-i-test.true c.value_of.ensures c.set.new.self c.set.ensures
 
 pub returns : goal.returns
 returns c = record {

@@ -9,20 +9,19 @@ use Rattle.registers.proofs.Registers.words.Goals as goal
 use Rattle.registers.proofs.Registers.words.Goals.{Start}
 
 -- the array's length, as the machine's values give it, is the list's
-long : (s : Start) → length (cells_of_registers s.args.self) ≡ 16
+long : (s : Start) → length (cells_of_registers s.args.self.now) ≡ 16
 long s = rw length-map (search rules)
 
 pub loop-i-init : goal.loop-i-init
-loop-i-init c = written_none (cells_of_registers c.args.self)
+loop-i-init c = written_none (cells_of_registers c.args.self.now)
 
 pub loop-i-preserved : goal.loop-i-preserved
 loop-i-preserved c =
-    let turn = c.before.before.before in
-    written-more (long turn.before) turn.loop-i.invariant c.loop-i-test.true (got_cell turn.args.self turn.loop-i.i c.get-v.ensures) c.encode-x.ensures
+    written-more (long (goal.at.loop-i-preserved c).Start) c.loop-i.invariant c.loop-i-test.true (got_cell c.args.self.now c.loop-i.i c.get.ensures) c.encode-x.ensures
 
 pub returns : goal.returns
 returns c =
     let all = written_all (long (goal.at.returns c).Start) c.loop-i.invariant c.loop-i-test.false in record {
       words = all;
-      whole = λ g. rw all (good-whole c.args.self g);
+      whole = λ g. rw all (good-whole c.args.self.now g);
     }
