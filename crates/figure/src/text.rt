@@ -1,5 +1,5 @@
 // Numbers as text. Each function writes at a place of `out`, leaves the rest as it was, and returns the place behind its text.
-ghost use Rattle.std.specs.Prelude.{◌≡◌, cond, [], ◌∷◌, ◌+◌, ◌%◌, ◌<◌, ◌≤◌, nat_abs, length};
+ghost use Rattle.std.specs.Prelude.{◌≡◌, cond, [], ◌∷◌, ◌+◌, ◌%◌, ◌<◌, ◌≤◌, length};
 ghost use Rattle.std.specs.Int.{w64};
 ghost use Rattle.std.proofs.Common.{of_z};
 ghost use Rattle.model.specs.Listing.{decimal as decimal_text, spaced as spaced_text, signed as signed_text};
@@ -27,7 +27,7 @@ pub fn minus(negative: bool, out: &mut [u8], at: usize) -> usize
     ensures { Wrote (cond negative (0x2D ∷ []) []) out.old at out.new result }
 {
     if negative {
-        return byte(0x2D, out, at);
+        return byte(b'-', out, at);
     }
     at
 }
@@ -66,19 +66,8 @@ pub fn spaced(n: u64, out: &mut [u8], at: usize) -> usize
     requires { at + 21 ≤ length out.old }
     ensures { Wrote (spaced_text (n ∷ [])) out.old at out.new result }
 {
-    let next = byte(0x20, out, at);
+    let next = byte(b' ', out, at);
     decimal(n, out, next)
-}
-
-// By the distance below -1, since the least i64 has no negative.
-fn magnitude(x: i64) -> u64
-    ensures { result ≡ nat_abs x }
-{
-    if x < 0 {
-        let below = (-1 - x) as u64;
-        return below + 1;
-    }
-    x as u64
 }
 
 pub fn signed(x: i64, out: &mut [u8], at: usize) -> usize
@@ -86,5 +75,5 @@ pub fn signed(x: i64, out: &mut [u8], at: usize) -> usize
     ensures { Wrote (signed_text (of_z w64 x)) out.old at out.new result }
 {
     let next = minus(x < 0, out, at);
-    decimal(magnitude(x), out, next)
+    decimal(x.unsigned_abs(), out, next)
 }

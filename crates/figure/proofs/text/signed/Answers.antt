@@ -20,5 +20,5 @@ returns c =
     let size = number.before.before in
     let sign = size.before.before.before in
     let s = sign.before.before.before in
-    rw (signed-text s.args.x s.ranges.x, ← (to_z-of_z w64 s.args.x s.ranges.x), ← size.magnitude.ensures)
+    rw (signed-text s.args.x s.ranges.x, ← (to_z-of_z w64 s.args.x s.ranges.x), ← size.unsigned_abs.ensures.value)
     (wrote-both sign.minus-next.ensures number.decimal.ensures)
