@@ -13,6 +13,7 @@ use barrier::masks::Masks;
 use layout::places;
 use nursery::Collected;
 use question::Question;
+use words::Source;
 
 // Where the new bases stand.
 pub fn bases_at(image: &[u64], roots: &[u64]) -> usize
@@ -85,5 +86,5 @@ pub fn place_part(image: &mut [u64], scratch: &[u64], base: u64) -> Result<u64, 
     let from = l.young;
     let end = l.old;
     let part = nursery::promoted(&scratch[lens..behind], &scratch[from..end], base as usize);
-    elder::place(image, part)
+    elder::place(image, Source::Given(part))
 }

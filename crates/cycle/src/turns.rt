@@ -10,6 +10,7 @@ ghost use Rattle.cycle.specs.Outcomes.{Asked, Gives, gave_at, swept_gave, finish
 use crate::scratch;
 use nursery::Collected;
 use question::Question;
+use words::Source;
 
 // A new array of so many cells, or the nursery's allocation at a base moved.
 #[derive(Clone, Copy)]
@@ -116,7 +117,7 @@ pub fn give_in(
     match what {
         Request::New(amount) => {
             if left == 1 {
-                return Ok(Gave::at(1, elder::place_new(image, amount)?));
+                return Ok(Gave::at(1, elder::place(image, Source::Blank(amount as usize))?));
             }
             Ok(bump(image, amount))
         }

@@ -2,10 +2,9 @@
 use mathlib.Core.Path.{◌≡◌, refl, sym, ◌∙◌}
 use mathlib.Core.Bool.{Bool, true, false}
 use mathlib.Core.List.{List}
-use Prim.Native.Nat.{ℕ, zero, suc, ◌*◌, ◌/◌}
-use native.Mathlib.Omega.{arith}
-use lib.ListN.{length, set, replicate}
-use Rattle.std.proofs.Common.{Result, Ok, Err}
+use Prim.Native.Nat.{ℕ, zero, suc}
+use lib.ListN.{set, replicate}
+use Rattle.std.proofs.Common.{Result, Ok, Err, Bor}
 use Rattle.model.specs.Res.{Res, ok, refuse, ◌>>=◌, each}
 use Rattle.model.specs.Records.{Cell, blank, whole_cells}
 use Rattle.model.specs.Barrier.{Barrier, count_in}
@@ -16,7 +15,6 @@ use Rattle.model.specs.Calls.{cells_in}
 use Rattle.theorems.specs.Fit.{FitBarrier, Image}
 use Rattle.theorems.specs.Does.{Meets, Does, with_old}
 use Rattle.theorems.proofs.Barrier.{in-fit}
-use Rattle.theorems.proofs.Cells.{whole_length}
 use Rattle.theorems.proofs.Does.{does-then, does-refused, does-same}
 use Rattle.theorems.proofs.Image.{image-decode}
 use Rattle.theorems.proofs.Res.{each_holds, holds_at}
@@ -28,10 +26,11 @@ use Rattle.question.specs.declared.Question.{Question}
 use Rattle.barrier.specs.declared.WriteBarrier.{WriteBarrier}
 use Rattle.trace.proofs.Places.{in-length}
 use Rattle.layout.specs.Elder.{with_slots, Turned, fit_answer, fit_for}
-use Rattle.layout.specs.declared.Fit.{Fit}
-use Rattle.layout.specs.declared.Fit.TheVariants as fit
+use Rattle.words.specs.Source.{cells_from, count_of}
+use Rattle.words.specs.declared.Source.{Source}
+use Rattle.words.specs.declared.Source.TheVariants.{Blank, Given}
 use Rattle.fields.specs.Fields.{Reads, Turns, on_old, with_old_bar}
-use Rattle.elder.specs.Steps.{count_step, place_step, blank_step}
+use Rattle.elder.specs.Steps.{count_step, place_step, blank_step, source_step}
 
 -- `count_in`
 
@@ -50,12 +49,25 @@ module _ (cs : List Cell) {w : List ℕ} {b : Barrier} (s : Reads (λ h. h.old.b
   pub count-refused : {v : List ℕ} (q : Question) → r ≡ Err q → Does (count_step cs) w (refuse (number q)) v
   count-refused q a = record { does = λ h i. rw (count-is h i, a) refl }
 
+-- Uninitialized cells leave the barrier as it is
+blanks-counted : (n : ℕ) (b : Barrier) → each (count_in 1) (replicate n blank) b ≡ ok b
+unfolding blank count_in
+blanks-counted zero b = refl
+blanks-counted (suc n) b = blanks-counted n b
+
+pub count-blank : {src : Source} (n : ℕ) {w : List ℕ} → src ≡ Blank n → Does (count_step (cells_from src)) w (ok tt) w
+unfolding count_step with_old with_old_bar
+count-blank n e = rw e (record { does = λ h i. rw (blanks-counted n h.old.bar) (refl, i) })
+
+pub count-given : {src : Source} (s : Bor (List ℕ)) {x : Res (Unit {0})} {w v : List ℕ} → src ≡ Given s → Does (count_step (cells_in s.now)) w x v → Does (count_step (cells_from src)) w x v
+count-given s e d = rw e d
+
 -- where none crosses, nothing changes
 pub count-quiet : (src : List ℕ) {w : List ℕ} {r : Bool} → whole_cells src ≡ true → r ≡ any_crossing 1 src → r ≡ false → Does (count_step (cells_in src)) w (ok tt) w
 unfolding count_step with_old with_old_bar
 count-quiet src {r = r} whole e q = record { does = λ h i. rw (quiet (steps-in 1) src whole (sym e ∙ q) h.old.bar) (refl, i) }
 
--- `place` and `place_new`: room for k cells, and these put
+-- `place`: room for k cells, and these put
 
 abbrev put_step : ℕ → List Cell → Heap → Res (ℕ × Heap)
 put_step k cs h = (room h.size k h.old >>= λ _. put cs h.old) >>= λ r. ok (r.0, with_old r.1 h)
@@ -81,17 +93,15 @@ put_is k cs h = go (room h.size k h.old) (each (count_in 1) cs h.old.bar)
     go (ok a) (refuse q) = refl
     go (refuse q) n = refl
 
-module _ (k : ℕ) (cs : List Cell) (w : List ℕ) (r : Fit) (e : fit_answer r ≡ fit_for k (decode w)) where
+module _ (k : ℕ) (cs : List Cell) (w : List ℕ) (r : Result ℕ Question) (e : fit_answer r ≡ fit_for k (decode w)) where
   fit_of : (h : Heap) → Image w h → fit_for k h ≡ fit_answer r
   fit_of h i = rw (← image-decode i) (sym e)
 
-  put-none : {v : List ℕ} → r ≡ fit.No → Does (put_step k cs) w (refuse 7) v
-  unfolding fit_answer
+  put-none : {v : List ℕ} {q : Question} → r ≡ Err q → Does (put_step k cs) w (refuse (number q)) v
   put-none a = record { does = λ h i. rw (put_is k cs h, fit_of h i, a) refl }
 
-  module _ {b : ℕ} (a : r ≡ fit.At b) where
+  module _ {b : ℕ} (a : r ≡ Ok b) where
     put_then : (h : Heap) → Image w h → (count_step cs h >>= λ x. put_at b cs x.0 x.1) ≡ put_step k cs h
-    unfolding fit_answer
     put_then h i = rw (put_is k cs h, fit_of h i, a) refl
 
     put-done : {u v : List ℕ} → Does (count_step cs) w (ok tt) u → Turned (λ ss. set ss b cs) u v → Does (put_step k cs) w (ok b) v
@@ -102,7 +112,7 @@ module _ (k : ℕ) (cs : List Cell) (w : List ℕ) (r : Fit) (e : fit_answer r �
 
     -- after the count there is room as before
     still-room : {u : List ℕ} → Image w (decode w) → Does (count_step cs) w (ok tt) u → Image u (decode u) × (ok b ≡ fit_for k (decode u))
-    unfolding fit_answer count_step fit_for room new_base with_old with_old_bar
+    unfolding count_step fit_for room new_base with_old with_old_bar
     still-room {u} i d = go (each (count_in 1) cs (decode w).old.bar) (d.does _ i)
       where
         with-bar : Barrier → Res (Unit {0} × Heap)
@@ -112,48 +122,32 @@ module _ (k : ℕ) (cs : List Cell) (w : List ℕ) (r : Fit) (e : fit_answer r �
         go (ok x) t = rw (image-decode t.1) (t.1, (rw a at e))
         go (refuse q) t = absurd t
 
-module _ (src : List ℕ) (g : whole_cells src ≡ true) (w : List ℕ) (r : Fit) (e : fit_answer r ≡ fit_for (length src / 3) (decode w)) where
+-- for the cells that come
+source-is : (src : Source) (h : Heap) → put_step (count_of src) (cells_from src) h ≡ source_step src h
+unfolding place_step blank_step place place_new
+source-is (Blank n) h = refl
+source-is (Given s) h = rw (in-length s.now) refl
+
+module _ (src : Source) (w : List ℕ) (n : ℕ) (k : n ≡ count_of src) (r : Result ℕ Question) (e : fit_answer r ≡ fit_for n (decode w)) where
   abbrev cells : List Cell
-  cells = cells_in src
+  cells = cells_from src
 
-  asked : fit_answer r ≡ fit_for (length cells) (decode w)
-  asked = rw (in-length src) e
+  room-is : fit_answer r ≡ fit_for (count_of src) (decode w)
+  room-is = rw (← k) e
 
-  pub place_none : {v : List ℕ} → r ≡ fit.No → Does (place_step cells) w (refuse 7) v
-  unfolding place_step place
-  place_none a = put-none (length cells) cells w r asked a
+  as-source : {x : Res ℕ} {v : List ℕ} → Does (put_step (count_of src) cells) w x v → Does (source_step src) w x v
+  as-source d = does-same (λ h i. source-is src h) d
 
-  module _ {b : ℕ} (a : r ≡ fit.At b) {u : List ℕ} (c : Result (Unit {0}) Question) (d : Does (count_step cells) w (done_answer c) u) where
+  pub place_none : {v : List ℕ} (q : Question) → r ≡ Err q → Does (source_step src) w (refuse (number q)) v
+  place_none q a = as-source (put-none (count_of src) cells w r room-is a)
+
+  module _ {b : ℕ} (a : r ≡ Ok b) {u : List ℕ} (c : Result (Unit {0}) Question) (d : Does (count_step cells) w (done_answer c) u) where
     module _ (x : Unit {0}) (f : c ≡ Ok x) where
-      pub place-asks : Image w (decode w) → Image u (decode u) × (((length src ≡ length src / 3 * 3) × (whole_cells src ≡ true)) × (ok b ≡ fit_for (length src / 3) (decode u)))
-      place-asks i =
-          let (j, k) = still-room (length src / 3) cells w r e a i (rw f at d) in
-          (j, ((omega (arith, in-length src, whole_length src g), g), k))
+      pub place-asks : Image w (decode w) → Image u (decode u) × (ok b ≡ fit_for (count_of src) (decode u))
+      place-asks i = still-room (count_of src) cells w r room-is a i (rw f at d)
 
-      pub place-done : {v : List ℕ} → Turned (λ ss. set ss b cells) u v → Does (place_step cells) w (ok b) v
-      unfolding place_step place
-      place-done t = put-done (length cells) cells w r asked a (rw f at d) t
+      pub place-done : {v : List ℕ} → Turned (λ ss. set ss b cells) u v → Does (source_step src) w (ok b) v
+      place-done t = as-source (put-done (count_of src) cells w r room-is a (rw f at d) t)
 
-    pub place-refused : {v : List ℕ} (q : Question) → c ≡ Err q → Does (place_step cells) w (refuse (number q)) v
-    unfolding place_step place
-    place-refused q f = put_refused (length cells) cells w r asked a (rw f at d)
-
--- Uninitialized cells leave the barrier as it is
-blanks-counted : (n : ℕ) (b : Barrier) → each (count_in 1) (replicate n blank) b ≡ ok b
-unfolding blank count_in
-blanks-counted zero b = refl
-blanks-counted (suc n) b = blanks-counted n b
-
-module _ (amount : ℕ) (w : List ℕ) (r : Fit) (e : fit_answer r ≡ fit_for amount (decode w)) where
-  pub blank_none : {v : List ℕ} → r ≡ fit.No → Does (blank_step amount) w (refuse 7) v
-  unfolding blank_step place_new
-  blank_none a = put-none amount (replicate amount blank) w r e a
-
-  module _ {b : ℕ} (a : r ≡ fit.At b) where
-    pub blank-room : ok b ≡ fit_for amount (decode w)
-    unfolding fit_answer
-    blank-room = rw a at e
-
-    pub blank-done : {v : List ℕ} → Turned (λ ss. set ss b (replicate amount blank)) w v → Does (blank_step amount) w (ok b) v
-    unfolding blank_step place_new count_step with_old with_old_bar
-    blank-done t = put-done amount (replicate amount blank) w r e a (record { does = λ h i. rw (blanks-counted amount h.old.bar) (refl, i) }) t
+    pub place-refused : {v : List ℕ} (q : Question) → c ≡ Err q → Does (source_step src) w (refuse (number q)) v
+    place-refused q f = as-source (put_refused (count_of src) cells w r room-is a (rw f at d))

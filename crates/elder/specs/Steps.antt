@@ -7,6 +7,9 @@ use Rattle.model.specs.Heap.{Elder, Heap}
 use Rattle.model.specs.Elder.{old_members, keep, sweep, collect_old, place, place_new}
 use Rattle.theorems.specs.Fit.{Image}
 use Rattle.theorems.specs.Does.{Does, with_old}
+use Rattle.model.specs.Calls.{cells_in}
+use Rattle.words.specs.declared.Source.{Source}
+use Rattle.words.specs.declared.Source.TheVariants.{Blank, Given}
 use Rattle.trace.specs.Words.{members}
 use Rattle.fields.specs.Fields.{on_old, with_old_bar}
 use Rattle.question.specs.Question.{number_answer}
@@ -46,3 +49,8 @@ place_step cs h = place h.size cs h.old >>= λ r. ok (r.0, with_old r.1 h)
 
 unfoldable pub blank_step : ℕ → Heap → Res (ℕ × Heap)
 blank_step a h = place_new h.size a h.old >>= λ r. ok (r.0, with_old r.1 h)
+
+-- as they come to `place`
+abbrev pub source_step : Source → Heap → Res (ℕ × Heap)
+source_step (Blank n) = blank_step n
+source_step (Given w) = place_step (cells_in w.now)

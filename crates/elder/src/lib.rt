@@ -14,13 +14,15 @@ ghost use Rattle.theorems.specs.Does.{Does};
 ghost use Rattle.question.specs.Question.{answer, number_answer, done_answer};
 ghost use Rattle.barrier.specs.Counts.{barrier_of};
 ghost use Rattle.trace.specs.Words.{members};
+ghost use Rattle.words.specs.Source.{cells_from, whole_source};
 ghost use Rattle.fields.specs.Fields.{Reads, Turns, on_old};
-ghost use Rattle.elder.specs.Steps.{Listed, swept, Collects, collect_with, collect_step, count_step, place_step, blank_step};
+ghost use Rattle.elder.specs.Steps.{Listed, swept, Collects, collect_with, collect_step, count_step, source_step};
 
 use barrier::{WriteBarrier, cells};
 use image::counts::MOST;
-use layout::{Fit, places};
+use layout::places;
 use question::Question;
+use words::Source;
 
 // Does it hold T allocations or more?
 pub fn is_full(image: &[u64]) -> bool
@@ -117,7 +119,7 @@ pub fn collect_all(image: &mut [u64]) -> Result<u64, Question>
 // ---- Placing
 
 // The cells counted in. The barrier is loaded only where one counts.
-fn count_in(image: &mut [u64], src: &[u64]) -> Result<(), Question>
+fn count_given(image: &mut [u64], src: &[u64]) -> Result<(), Question>
     requires image { Image image.old (decode image.old) }
     requires src_value { whole_cells src.now ≡ true }
     ensures { Does (count_step (cells_in src.now)) image.old (done_answer result) image.new }
@@ -130,30 +132,26 @@ fn count_in(image: &mut [u64], src: &[u64]) -> Result<(), Question>
     Ok(())
 }
 
-// These cells at the new base.
-pub fn place(image: &mut [u64], src: &[u64]) -> Result<u64, Question>
+// The same, but Uninitialized cells never count.
+fn count_in(image: &mut [u64], src: Source<'_>) -> Result<(), Question>
     requires image { Image image.old (decode image.old) }
-    requires src_value { whole_cells src.now ≡ true }
-    ensures { Does (place_step (cells_in src.now)) image.old (number_answer result) image.new }
+    requires src_whole { whole_source src ≡ true }
+    ensures { Does (count_step (cells_from src.entry)) image.old (done_answer result) image.new }
 {
-    let len = src.len() / 3;
-    let Fit::At(b) = layout::room_for(image, len) else {
-        return Err(Question::Room);
-    };
-    count_in(image, src)?;
-    layout::put_cells(image, b, src, len);
-    Ok(b as u64)
+    match src {
+        Source::Blank(_) => Ok(()),
+        Source::Given(words) => count_given(image, words),
+    }
 }
 
-// So many Uninitialized cells at the new base.
-pub fn place_new(image: &mut [u64], amount: u64) -> Result<u64, Question>
-    requires { Image image.old (decode image.old) }
-    ensures { Does (blank_step amount) image.old (number_answer result) image.new }
+// These cells at the new base, which is answered. Room is asked for first: no sum is made with their number before.
+pub fn place(image: &mut [u64], src: Source<'_>) -> Result<u64, Question>
+    requires image { Image image.old (decode image.old) }
+    requires src_whole { whole_source src ≡ true }
+    ensures { Does (source_step src.entry) image.old (number_answer result) image.new }
 {
-    let len = amount as usize;
-    let Fit::At(b) = layout::room_for(image, len) else {
-        return Err(Question::Room);
-    };
-    layout::put_blank(image, b, len);
+    let b = layout::room_for(image, src.count())?;
+    count_in(image, src)?;
+    layout::put(image, b, src);
     Ok(b as u64)
 }

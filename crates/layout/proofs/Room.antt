@@ -27,8 +27,9 @@ use Rattle.slots.proofs.Parts.{lent, lent_length}
 use Rattle.layout.specs.Places.{Laid}
 use Rattle.layout.specs.Elder.{fit_answer, fit_for, fit_words}
 use Rattle.layout.specs.declared.places.Layout.{Layout}
-use Rattle.layout.specs.declared.Fit.{Fit}
-use Rattle.layout.specs.declared.Fit.TheVariants.{At, No}
+use Rattle.std.specs.Prelude.{Result, Ok, Err}
+use Rattle.question.specs.declared.Question.{Question}
+use Rattle.question.specs.declared.Question.TheVariants as question
 use Rattle.layout.proofs.Tail.{s-is, c-is, slots-inside, slots-at-is, lens-lent}
 
 -- `fit_in`
@@ -40,8 +41,8 @@ sum-set (y ∷ l) zero x h = omega arith
 sum-set (y ∷ l) (suc i) x h = omega (arith, sum-set l i x (le_of_suc-le-suc h))
 
 module _ (ls : List ℕ) (c k b : ℕ) (e : b ≡ length (places 0 ls)) where
-  pub fit-past : length ls ≤ b → fit_answer No ≡ fit_words ls c k
-  unfolding fit_answer fit_words
+  pub fit-past : length ls ≤ b → fit_answer (Err question.Room) ≡ fit_words ls c k
+  unfolding fit_words
   fit-past h = rw (← e, le-ltb b (length ls) h)
 
   module _ (h : b < length ls) (u : ℕ) (f : u ≡ sum ls) where
@@ -52,12 +53,12 @@ module _ (ls : List ℕ) (c k b : ℕ) (e : b ≡ length (places 0 ls)) where
     fit-elem = omega (arith, sum-set ls b 0 h)
 
     module _ (s : sum ls ≤ c) where
-      pub fit_none : c - (u - get_or ls b 0) < k → fit_answer No ≡ fit_words ls c k
-      unfolding fit_answer fit_words
+      pub fit_none : c - (u - get_or ls b 0) < k → fit_answer (Err question.Room) ≡ fit_words ls c k
+      unfolding fit_words
       fit_none g = rw (← e, lt-ltb b (length ls) h, lt-leb (sum (set ls b 0) + k) c (omega (arith, left)))
 
-      pub fit_at : k ≤ c - (u - get_or ls b 0) → fit_answer (At b) ≡ fit_words ls c k
-      unfolding fit_answer fit_words
+      pub fit_at : k ≤ c - (u - get_or ls b 0) → fit_answer (Ok b) ≡ fit_words ls c k
+      unfolding fit_words
       fit_at g = rw (← e, lt-ltb b (length ls) h, le-leb (sum (set ls b 0) + k) c (omega (arith, left)))
 
 -- `room_for`: the lengths are those of the heap's slots
@@ -77,10 +78,10 @@ module _ {w : List ℕ} (i : Image w (decode w)) {l : Layout} (p : Laid w l) whe
   unfolding in_use
   fit-room = rw (lens-lent i p, lengths-sum (decode w).old.slots, c-is i p) i.fit.old.room
 
-  pub fit-for : (k : ℕ) (r : Fit) → fit_answer r ≡ fit_words (take (l.young - l.slots) (drop l.slots w)) l.c k → fit_answer r ≡ fit_for k (decode w)
+  pub fit-for : (k : ℕ) (r : Result ℕ Question) → fit_answer r ≡ fit_words (take (l.young - l.slots) (drop l.slots w)) l.c k → fit_answer r ≡ fit_for k (decode w)
   fit-for k r e = (rw (lens-lent i p, c-is i p) at e) ∙ fit_is (decode w) k i.fit.old.slots
 
-  -- what an answered base says: `put_cells` and `put_blank` rest on it
+  -- what an answered base says: `put` rests on it
   module _ (k b : ℕ) (e : ok b ≡ fit_for k (decode w)) where
     abbrev Fits : ℕ → Type 0
     Fits n = Room (decode w).size k (decode w).old × (held (decode w).old.slots ≡ n)

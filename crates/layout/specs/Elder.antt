@@ -1,13 +1,13 @@
 -- What an operation on the elder answers, and what it makes of an image.
-use Rattle.std.specs.Prelude.{List, ℕ, ◌+◌, ltb, leb, length, set}
+use Rattle.std.specs.Prelude.{Result, List, ℕ, ◌+◌, ltb, leb, length, set}
 use Rattle.model.specs.Lists.{places, sum}
-use Rattle.model.specs.Res.{Res, ok, refuse, ◌>>=◌, ask}
+use Rattle.model.specs.Res.{Res, ok, ◌>>=◌, ask}
 use Rattle.model.specs.Records.{Cell}
 use Rattle.model.specs.Heap.{Heap}
 use Rattle.model.specs.Elder.{new_base, room}
 use Rattle.theorems.specs.Fit.{Image}
-use Rattle.layout.specs.declared.Fit.{Fit}
-use Rattle.layout.specs.declared.Fit.TheVariants.{At, No}
+use Rattle.question.specs.Question.{number_answer}
+use Rattle.question.specs.declared.Question.{Question}
 
 unfoldable pub with_slots : List (List Cell) → Heap → Heap
 with_slots ss h = record { size = h.size; young = h.young; old = record { colls = h.old.colls; bar = h.old.bar; slots = ss } }
@@ -16,10 +16,9 @@ with_slots ss h = record { size = h.size; young = h.young; old = record { colls 
 pub record Turned (f : List (List Cell) → List (List Cell)) (w v : List ℕ) : Type 0 where
   pub turned : (h : Heap) → Image w h → Image v (with_slots (f h.old.slots) h)
 
--- `Fit`: the new base, or question 7
-unfoldable pub fit_answer : Fit → Res ℕ
-fit_answer (At b) = ok b
-fit_answer No = refuse 7
+-- the new base, or question 7
+abbrev pub fit_answer : Result ℕ Question → Res ℕ
+fit_answer r = number_answer r
 
 -- is there room for k cells, and at which base?
 unfoldable pub fit_for : ℕ → Heap → Res ℕ

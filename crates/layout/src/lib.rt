@@ -7,17 +7,19 @@ pub mod places;
 ghost use Rattle.std.specs.Prelude.{◌≡◌, true, [], map, ◌*◌, ◌≤◌, ◌<◌, length, get_or, set, replicate};
 ghost use Rattle.model.specs.Lists.{keep_if, flat, sum};
 ghost use Rattle.model.specs.Res.{ok};
-ghost use Rattle.model.specs.Records.{blank, whole_cells};
+ghost use Rattle.model.specs.Records.{whole_cells};
 ghost use Rattle.model.specs.Image.{decode};
 ghost use Rattle.model.specs.Elder.{keep};
 ghost use Rattle.model.specs.Collector.{holds, swap_cell, read};
-ghost use Rattle.model.specs.Calls.{cells_in};
 ghost use Rattle.theorems.specs.Fit.{Image};
 ghost use Rattle.trace.specs.Words.{pointer, members};
+ghost use Rattle.words.specs.Source.{cells_from, count_of, whole_source};
 ghost use Rattle.slots.specs.Slots.{ReadBy, written};
 ghost use Rattle.layout.specs.Elder.{Turned, fit_answer, fit_for, fit_words};
 
+use question::Question;
 use value::Words;
+use words::Source;
 
 // The elder's cell at (base, offset), if there is one.
 pub fn read_elder(image: &[u64], base: u64, offset: u64) -> Option<Words>
@@ -51,31 +53,24 @@ pub fn write_elder(image: &mut [u64], base: u64, offset: u64, cell: &[u64])
     );
 }
 
-// The base of a new allocation, or no room for it.
-#[derive(Clone, Copy)]
-pub enum Fit {
-    At(usize),
-    No,
-}
-
 // Question 7 of len cells, where c cells are the elder's in all. No sum is made with len, which may be any number.
-fn fit_in(lens: &[u64], c: usize, len: usize) -> Fit
+fn fit_in(lens: &[u64], c: usize, len: usize) -> Result<usize, Question>
     requires { sum lens.now ≤ c }
     ensures { fit_answer result ≡ fit_words lens.now c len }
 {
     let b = slots::held(lens);
     if lens.len() <= b {
-        return Fit::No;
+        return Err(Question::Room);
     }
     let used = slots::in_use(lens) - lens[b] as usize;
     if c - used < len {
-        return Fit::No;
+        return Err(Question::Room);
     }
-    Fit::At(b)
+    Ok(b)
 }
 
-// Question 7 of len cells.
-pub fn room_for(image: &[u64], len: usize) -> Fit
+// Question 7 of len cells: the base of a new allocation, if there is room for it.
+pub fn room_for(image: &[u64], len: usize) -> Result<usize, Question>
     requires { Image image.now (decode image.now) }
     ensures { fit_answer result ≡ fit_for len (decode image.now) }
 {
@@ -85,29 +80,17 @@ pub fn room_for(image: &[u64], len: usize) -> Fit
     fit_in(&image[from..end], l.c, len)
 }
 
-// The len cells of src become the allocation at b, the base that `room_for` answered.
-pub fn put_cells(image: &mut [u64], b: usize, src: &[u64], len: usize)
+// These cells become the allocation at b, the base that `room_for` answered.
+pub fn put(image: &mut [u64], b: usize, src: Source<'_>)
     requires image { Image image.old (decode image.old) }
-    requires src_len { (length src.now ≡ len * 3) × (whole_cells src.now ≡ true) }
-    requires b_value { ok b ≡ fit_for len (decode image.old) }
-    ensures { Turned (λ ss. set ss b (cells_in src.now)) image.old image.new }
+    requires src_whole { whole_source src ≡ true }
+    requires b_value { ok b ≡ fit_for (count_of src) (decode image.old) }
+    ensures { Turned (λ ss. set ss b (cells_from src.entry)) image.old image.new }
 {
     let l = places::layout_of(image);
     let from = l.slots;
     let at = l.old - from;
-    slots::place(&mut image[from..], l.s, at, b, src, len);
-}
-
-// The same with len Uninitialized cells.
-pub fn put_blank(image: &mut [u64], b: usize, len: usize)
-    requires image { Image image.old (decode image.old) }
-    requires b_value { ok b ≡ fit_for len (decode image.old) }
-    ensures { Turned (λ ss. set ss b (replicate len blank)) image.old image.new }
-{
-    let l = places::layout_of(image);
-    let from = l.slots;
-    let at = l.old - from;
-    slots::place_blank(&mut image[from..], l.s, at, b, len);
+    slots::place(&mut image[from..], l.s, at, b, src);
 }
 
 // The elder keeps the allocations whose pointers are among the count triples of list.

@@ -8,12 +8,15 @@ use native.Mathlib.Omega.{arith}
 use lib.ListN.{length, get_or, set, take, drop, replicate, length-drop, length-set, length-replicate}
 use lib.Seq.{length-take-le, take_at, drop_at, drop-drop, take-set-lt, set-append_left}
 use Rattle.model.specs.Lists.{flat, sum}
-use Rattle.model.specs.Records.{Cell, blank, cell_words, all_valid, whole_cells}
+use Rattle.model.specs.Records.{Cell, blank, cell_words, all_valid}
 use Rattle.model.specs.Heap.{in_use}
-use Rattle.model.specs.Calls.{cells_in}
-use Rattle.theorems.proofs.Cells.{words-length, valid-blanks, whole_back, whole-valid, whole_length}
+use Rattle.theorems.proofs.Cells.{words-length, valid-blanks, whole_back, whole-valid}
 use Rattle.theorems.proofs.Contents.{valid-all, all_valid_lem, set-from}
 use Rattle.words.specs.Words.{padded}
+use Rattle.words.specs.Source.{filling, cells_from, count_of, whole_source}
+use Rattle.words.specs.declared.Source.{Source}
+use Rattle.words.specs.declared.Source.TheVariants.{Blank, Given}
+use Rattle.trace.proofs.Places.{in-length}
 use Rattle.slots.specs.Slots.{Elder, Changed, slots_at}
 use Rattle.slots.proofs.Flat.{flat-split, flat-put, use-split, use-put, words_append, map-set}
 use Rattle.slots.proofs.Counts.{packed-sum, packed_start, packed-length, packed-rest, slots_length}
@@ -68,7 +71,7 @@ module _ (ws : List ℕ) (ss : List (List Cell)) (b : ℕ) (h : b < length ss) (
 pub set-valid : (ss : List (List Cell)) (b : ℕ) (cs : List Cell) → all_valid (flat ss) ≡ true → all_valid cs ≡ true → all_valid (flat (set ss b cs)) ≡ true
 set-valid ss b cs v u = valid-all _ (λ c m. ⊎_elim (all_valid_lem (flat ss) v c) (all_valid_lem cs u c) (set-from ss b cs m))
 
--- `place` and `place_blank`: i, j and k are the hole's
+-- `place`: i, j and k are the hole's
 
 module _ {s at : ℕ} {w : List ℕ} {ss : List (List Cell)} (v : Elder s at w ss) (b i j k : ℕ) (ei : i ≡ sum (take b (take s w)) * 3) (ej : j ≡ get_or (take s w) b 0 * 3) (ek : k ≡ sum (take s w) * 3) where
   fi : i ≡ in_use (take b ss) * 3
@@ -94,11 +97,8 @@ module _ {s at : ℕ} {w : List ℕ} {ss : List (List Cell)} (v : Elder s at w s
     place_in = omega (arith, fi, fj, fk, use-split ss b bs)
 
     module _ (len : ℕ) (r : (in_use (set ss b []) + len) * 3 ≤ length w - at) where
-      pub place-room : (new : ℕ) → new ≡ len * 3 → k - j + new ≤ length (lent at w)
+      place-room : (new : ℕ) → new ≡ len * 3 → k - j + new ≤ length (lent at w)
       place-room new e = omega (arith, fi, fj, fk, use-split ss b bs, use-put ss b bs [], lent_length w at v.inside)
-
-      pub blank-room : k - j + 3 * len ≤ length (lent at w)
-      blank-room = place-room (3 * len) (omega arith)
 
       place-done : (cs : List Cell) → all_valid cs ≡ true → length cs ≡ len → {ys : List ℕ} → ys ≡ padded (take i (lent at w) ++ (cell_words cs ++ take (k - (i + j)) (drop (i + j) (lent at w)))) (length (lent at w))
           → Changed s at w (set (returned at w ys) b len) (set ss b cs)
@@ -115,14 +115,28 @@ unfolding cell_words blank
 words-blank zero = refl
 words-blank (suc n) = let e : 3 * suc n ≡ suc (suc (suc (3 * n))) = omega arith in rw (e, words-blank n)
 
-module _ {s at : ℕ} {w : List ℕ} (v : Elder s at w (slots_at s at w)) (b i j k : ℕ) (ei : i ≡ sum (take b (take s w)) * 3) (ej : j ≡ get_or (take s w) b 0 * 3) (ek : k ≡ sum (take s w) * 3) (h : b < s) (len : ℕ)
-    (r : (in_use (set (slots_at s at w) b []) + len) * 3 ≤ length w - at) where
-  pub place-made : (src : List ℕ) → length src ≡ len * 3 → whole_cells src ≡ true → {ys : List ℕ} → ys ≡ padded (take i (lent at w) ++ (src ++ take (k - (i + j)) (drop (i + j) (lent at w)))) (length (lent at w))
-      → Changed s at w (set (returned at w ys) b len) (set (slots_at s at w) b (cells_in src))
-  place-made src l u {ys} e = place-done v b i j k ei ej ek h len r (cells_in src) (whole-valid src u) (omega (arith, whole_length src u)) {ys = ys} (rw (whole_back src u) e)
+-- what is placed
 
-  pub blank-made : {ys : List ℕ} → ys ≡ padded (take i (lent at w) ++ (replicate (3 * len) 0 ++ take (k - (i + j)) (drop (i + j) (lent at w)))) (length (lent at w))
-      → Changed s at w (set (returned at w ys) b len) (set (slots_at s at w) b (replicate len blank))
-  blank-made e = place-done v b i j k ei ej ek h len r (replicate len blank) (valid-blanks len) (length-replicate len blank) (rw (words-blank len) at e)
+source-words : (src : Source) → whole_source src ≡ true → filling src ≡ cell_words (cells_from src)
+source-words (Blank n) u = words-blank n
+source-words (Given s) u = sym (whole_back s.now u)
 
-pub ruleset placed = (place_in, place-used, place-room, blank-room, place-zeros, place-made, blank-made)
+pub source-count : (src : Source) → length (cells_from src) ≡ count_of src
+source-count (Blank n) = length-replicate n blank
+source-count (Given s) = in-length s.now
+
+source-valid : (src : Source) → whole_source src ≡ true → all_valid (cells_from src) ≡ true
+source-valid (Blank n) u = valid-blanks n
+source-valid (Given s) u = whole-valid s.now u
+
+module _ {s at : ℕ} {w : List ℕ} (v : Elder s at w (slots_at s at w)) (b i j k : ℕ) (ei : i ≡ sum (take b (take s w)) * 3) (ej : j ≡ get_or (take s w) b 0 * 3) (ek : k ≡ sum (take s w) * 3) (h : b < s)
+    (src : Source) (u : whole_source src ≡ true) (r : (in_use (set (slots_at s at w) b []) + count_of src) * 3 ≤ length w - at) where
+  pub source-room : k - j + length (filling src) ≤ length (lent at w)
+  source-room = place-room v b i j k ei ej ek h (count_of src) r (length (filling src)) (omega (arith, ap length (source-words src u), words-length (cells_from src), source-count src))
+
+  pub source-placed : {n : ℕ} → n ≡ count_of src → {ys : List ℕ} → ys ≡ padded (take i (lent at w) ++ (filling src ++ take (k - (i + j)) (drop (i + j) (lent at w)))) (length (lent at w))
+      → Changed s at w (set (returned at w ys) b n) (set (slots_at s at w) b (cells_from src))
+  source-placed q e =
+      rw q (place-done v b i j k ei ej ek h (count_of src) r (cells_from src) (source-valid src u) (source-count src) (rw (source-words src u) at e))
+
+pub ruleset placed = (place_in, place-used, source-room, place-zeros, source-placed)

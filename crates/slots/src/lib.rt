@@ -12,9 +12,11 @@ ghost use Rattle.model.specs.Elder.{keeps, keep};
 ghost use Rattle.model.specs.Collector.{holds, swap_cell};
 ghost use Rattle.model.specs.Calls.{cells_in};
 ghost use Rattle.trace.specs.Words.{pointer, members};
+ghost use Rattle.words.specs.Source.{cells_from, count_of, whole_source};
 ghost use Rattle.slots.specs.Slots.{Packed, slots_of, slots_at, Elder, Changed, read_old, ReadBy, written, stepped, stepped_to, words_at};
 
 use value::Words;
+use words::Source;
 
 // ---- Lengths
 
@@ -165,28 +167,17 @@ fn hole_of(lens: &[u64], b: usize) -> Hole
     }
 }
 
-// The cells of src, len of them, at base b. An allocation that is there is replaced, and its room used again.
-pub fn place(w: &mut [u64], s: usize, at: usize, b: usize, src: &[u64], len: usize)
+// These cells at base b. An allocation that is there is replaced, and its room used again.
+pub fn place(w: &mut [u64], s: usize, at: usize, b: usize, src: Source<'_>)
     requires elder { Elder s at w.old (slots_at s at w.old) }
-    requires b_lt_s { (b < s) × (length src.now ≡ len * 3) × (whole_cells src.now ≡ true) }
-    requires len_in_bounds { (in_use (set (slots_at s at w.old) b []) + len) * 3 ≤ length w.old - at }
-    ensures { Changed s at w.old w.new (set (slots_at s at w.old) b (cells_in src.now)) }
+    requires b_lt_s { b < s }
+    requires src_whole { whole_source src ≡ true }
+    requires src_in_bounds { (in_use (set (slots_at s at w.old) b []) + count_of src) * 3 ≤ length w.old - at }
+    ensures { Changed s at w.old w.new (set (slots_at s at w.old) b (cells_from src.entry)) }
 {
     let h = hole_of(&w[..s], b);
     words::splice(&mut w[at..], h.at, h.old, h.used, src);
-    w[b] = len as u64;
-}
-
-// The same with len Uninitialized cells, whose words are 0.
-pub fn place_blank(w: &mut [u64], s: usize, at: usize, b: usize, len: usize)
-    requires elder { Elder s at w.old (slots_at s at w.old) }
-    requires b_lt_s { b < s }
-    requires len_in_bounds { (in_use (set (slots_at s at w.old) b []) + len) * 3 ≤ length w.old - at }
-    ensures { Changed s at w.old w.new (set (slots_at s at w.old) b (replicate len blank)) }
-{
-    let h = hole_of(&w[..s], b);
-    words::splice_zeros(&mut w[at..], h.at, h.old, h.used, 3 * len);
-    w[b] = len as u64;
+    w[b] = src.count() as u64;
 }
 
 // ---- What is no member is dropped

@@ -1,5 +1,5 @@
 -- Laws of `paste` and `padded`.
-use Prim.Native.Nat.{ℕ, zero, suc, ◌+◌, ◌-◌, ◌≤◌}
+use Prim.Native.Nat.{ℕ, zero, suc, ◌+◌, ◌-◌, ◌*◌, ◌≤◌}
 use mathlib.Core.Path.{◌≡◌, refl, sym, ap, ◌∙◌}
 use mathlib.Core.List.{List, ◌++◌, append_assoc}
 use native.Mathlib.Nat.{sub-zero}
@@ -9,6 +9,10 @@ use lib.Seq.{paste, take-paste, drop-paste, drop-drop, take_all, take-take, take
 use borrow.Rule.Slice.PartMut.{put_mid}
 use Rattle.std.proofs.lemmas.Slice.{put_mid-paste}
 use Rattle.words.specs.Words.{padded}
+use Rattle.words.specs.Source.{filling}
+use Rattle.words.specs.declared.Source.{Source}
+use Rattle.words.specs.declared.Source.TheVariants.{Blank, Given}
+use Rattle.std.proofs.Common.{Bor}
 
 -- past what was pasted, and before it, nothing changes
 module _ (d : List ℕ) (at : ℕ) (s : List ℕ) (n : ℕ) (h : at ≤ length d) where
@@ -45,9 +49,13 @@ zeros-filled w at h {ys} e =
 
 -- `open_place`, and words put at the place
 
+-- the words in use behind the place
+abbrev rest_of : ℕ → ℕ → List ℕ → List ℕ
+rest_of past used w = take (used - past) (drop past w)
+
 module _ (at old used new : ℕ) (w : List ℕ) (h : (at + old ≤ used) × (used ≤ length w) × (used - old + new ≤ length w)) where
   abbrev behind : List ℕ
-  behind = take (used - (at + old)) (drop (at + old) w)
+  behind = rest_of (at + old) used w
 
   abbrev end : ℕ
   end = at + new + (used - (at + old))
@@ -93,4 +101,15 @@ module _ (at old used new : ℕ) (w : List ℕ) (h : (at + old ≤ used) × (use
       ∙ sym (append_assoc (take at w) (s ++ behind) z)
       ∙ ap (λ (j : ℕ). (take at w ++ (s ++ behind)) ++ replicate (length w - j) 0) e
 
-pub ruleset laws = (opened, spliced)
+-- `splice`
+module _ (at old used : ℕ) (w : List ℕ) (src : Source) (h : (at + old ≤ used) × (used ≤ length w) × (used - old + length (filling src) ≤ length w)) (new : ℕ) (e : new ≡ length (filling src)) {v : List ℕ} (p : v ≡ padded (take (at + new) w ++ rest_of (at + old) used w) (length w)) {u : List ℕ} where
+  replaced-by : (s : List ℕ) → filling src ≡ s → u ≡ paste v at s new → u ≡ padded (take at w ++ (filling src ++ rest_of (at + old) used w)) (length w)
+  replaced-by s f q = spliced at old used new w (h.0, h.1, rw e h.2) (filling src) (sym e) p (q ∙ ap (λ (r : List ℕ). paste v at r new) (sym f))
+
+  pub spliced-blank : (n : ℕ) → src ≡ Blank n → u ≡ paste v at (replicate new 0) new → u ≡ padded (take at w ++ (filling src ++ rest_of (at + old) used w)) (length w)
+  spliced-blank n f = replaced-by (replicate new 0) (ap filling f ∙ ap (λ (k : ℕ). replicate k 0) (sym (e ∙ ap (λ (r : Source). length (filling r)) f ∙ length-replicate {A = ℕ} (3 * n) 0)))
+
+  pub spliced-given : (s : Bor (List ℕ)) → src ≡ Given s → u ≡ paste v at s.now (length s.now) → u ≡ padded (take at w ++ (filling src ++ rest_of (at + old) used w)) (length w)
+  spliced-given s f q = replaced-by s.now (ap filling f) (q ∙ ap (paste v at s.now) (sym (e ∙ ap (λ (r : Source). length (filling r)) f)))
+
+pub ruleset laws = (opened, spliced-blank, spliced-given)

@@ -6,6 +6,7 @@ ghost use Rattle.std.specs.Prelude.{◌≡◌, ◌++◌, ◌+◌, ◌-◌, ◌^�
 ghost use Rattle.std.proofs.Math.Seq.{paste};
 ghost use Rattle.model.specs.Lists.{sum};
 ghost use Rattle.words.specs.Words.{padded};
+ghost use Rattle.words.specs.Source.{filling, count_of};
 
 // Moves the n words from src on to dst; the two places may overlap.
 pub fn move_words(w: &mut [u64], dst: usize, src: usize, n: usize)
@@ -54,24 +55,48 @@ fn open_place(w: &mut [u64], at: usize, old: usize, used: usize, new: usize)
     zero_words(w, end, used.saturating_sub(end));
 }
 
-// Of the first used words the old ones from at on are replaced by src. The rest is 0.
-pub fn splice(w: &mut [u64], at: usize, old: usize, used: usize, src: &[u64])
-    requires bound { (at + old ≤ used) × (used ≤ length w.old) × (used - old + length src.now ≤ length w.old) }
-    requires w_value { drop used w.old ≡ replicate (length w.old - used) 0 }
-    ensures { w.new ≡ padded (take at w.old ++ (src.now ++ take (used - (at + old)) (drop (at + old) w.old))) (length w.old) }
-{
-    open_place(w, at, old, used, src.len());
-    copy_words(w, at, src);
+// Cells that come to a place: so many Uninitialized ones, whose words are 0, or those of these words.
+#[derive(Clone, Copy)]
+pub enum Source<'a> {
+    Blank(usize),
+    Given(&'a [u64]),
 }
 
-// The same with n zeros for src.
-pub fn splice_zeros(w: &mut [u64], at: usize, old: usize, used: usize, n: usize)
-    requires bound { (at + old ≤ used) × (used ≤ length w.old) × (used - old + n ≤ length w.old) }
+impl Source<'_> {
+    // How many cells they are.
+    pub fn count(self) -> usize
+        ensures { result ≡ count_of self.entry }
+    {
+        match self {
+            Source::Blank(n) => n,
+            Source::Given(words) => words.len() / 3,
+        }
+    }
+
+    // How many words.
+    fn len(self) -> usize
+        requires { length (filling self) < 2 ^ 64 }
+        ensures { result ≡ length (filling self.entry) }
+    {
+        match self {
+            Source::Blank(n) => 3 * n,
+            Source::Given(words) => words.len(),
+        }
+    }
+}
+
+// Of the first used words the old ones from at on are replaced by src's. The rest is 0.
+pub fn splice(w: &mut [u64], at: usize, old: usize, used: usize, src: Source<'_>)
+    requires bound { (at + old ≤ used) × (used ≤ length w.old) × (used - old + length (filling src) ≤ length w.old) }
     requires w_value { drop used w.old ≡ replicate (length w.old - used) 0 }
-    ensures { w.new ≡ padded (take at w.old ++ (replicate n 0 ++ take (used - (at + old)) (drop (at + old) w.old))) (length w.old) }
+    ensures { w.new ≡ padded (take at w.old ++ (filling src.entry ++ take (used - (at + old)) (drop (at + old) w.old))) (length w.old) }
 {
-    open_place(w, at, old, used, n);
-    zero_words(w, at, n);
+    let new = src.len();
+    open_place(w, at, old, used, new);
+    match src {
+        Source::Blank(_) => zero_words(w, at, new),
+        Source::Given(words) => copy_words(w, at, words),
+    }
 }
 
 // The sum of the first n words. Every access to the elder runs this loop: it only adds, so that it can be done many at a time.

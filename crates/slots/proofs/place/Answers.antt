@@ -3,9 +3,6 @@ use Rattle.slots.proofs.Places.{placed}
 use Rattle.slots.proofs.Counts.{counts}
 use Rattle.slots.proofs.place.Goals as goal
 
-pub slice_bounds-hole_of-end-2 : goal.slice_bounds-hole_of-end-2
-slice_bounds-hole_of-end-2 c = search (placed, counts, rules)
-
 pub hole_of-h-requires : goal.hole_of-h-requires
 hole_of-h-requires c = search (placed, counts, rules)
 

@@ -24,7 +24,7 @@ promoted-part-requires c = let all = (part-inside c.requires.image c.layout_of-l
 pub place-requires : goal.place-requires
 place-requires c = record {
   image = c.requires.image;
-  src_value = part-whole c.requires.image c.layout_of-l.ensures c.requires.saved c.args.base c.requires.nonzero c.promoted-part.ensures;
+  src_whole = part-whole c.requires.image c.layout_of-l.ensures c.requires.saved c.args.base c.requires.nonzero c.promoted-part.ensures;
 }
 
 pub returns : goal.returns

@@ -3,14 +3,14 @@ use Rattle.question.proofs.Passing.{refused_as}
 use Rattle.cycle.proofs.Giving.{placed, give-new, give-move, give-young, new-asked, move-asked}
 use Rattle.cycle.proofs.turns.give_in.Goals as goal
 
-pub returns-in_err-place_new-in-New : goal.returns-in_err-place_new-in-New
-returns-in_err-place_new-in-New c =
-    let refused = refused_as c.from_residual.result _ c.from_residual.ensures.1 ∙ sym (ap placed c.in_err-place_new-in-New.was) in
-    give-new _ _ _ _ _ c.in-New.is c.if-left-eq1.true c.place_new.ensures refused
+pub returns-in_err-place-in-New : goal.returns-in_err-place-in-New
+returns-in_err-place-in-New c =
+    let refused = refused_as c.from_residual.result _ c.from_residual.ensures.1 ∙ sym (ap placed c.in_err-place-in-New.was) in
+    give-new _ _ _ _ _ c.in-New.is c.if-left-eq1.true c.place.ensures refused
 
 pub returns-then-left-eq1 : goal.returns-then-left-eq1
 returns-then-left-eq1 c =
-    give-new _ _ _ _ _ c.in-New.is c.if-left-eq1.true c.place_new.ensures (ap Ok c.at.ensures ∙ sym (ap placed c.in_ok-place_new-in-New.was))
+    give-new _ _ _ _ _ c.in-New.is c.if-left-eq1.true c.place.ensures (ap Ok c.at.ensures ∙ sym (ap placed c.in_ok-place-in-New.was))
 
 pub bump-requires : goal.bump-requires
 bump-requires c = record {
