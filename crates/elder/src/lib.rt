@@ -30,9 +30,7 @@ pub fn is_full(image: &[u64]) -> bool
     ensures { Reads (λ h. leb h.size.t (held h.old.slots)) image.now result }
 {
     let l = places::layout_of(image);
-    let from = l.slots;
-    let end = l.young;
-    let n = slots::held(&image[from..end]) as u64;
+    let n = slots::held(l.slot_lengths(image)) as u64;
     fields::size_t(image) <= n
 }
 
@@ -45,10 +43,14 @@ fn members(image: &[u64], roots: &[u64], masks: &[u64], list: &mut [u64]) -> usi
     ensures { Listed (cells_in roots.now) masks.now image.now result list.new }
 {
     let l = places::layout_of(image);
-    let from = l.slots;
-    let end = l.young;
-    let at = l.old;
-    trace::list_members(1, roots, &image[from..end], &image[at..], masks, list)
+    trace::list_members(
+        1,
+        roots,
+        l.slot_lengths(image),
+        l.elder_cells(image),
+        masks,
+        list,
+    )
 }
 
 // The cells of what is no member counted out.
@@ -58,11 +60,8 @@ fn count_dropped(image: &[u64], list: &[u64], count: usize) -> Result<WriteBarri
     ensures { Reads (λ h. count_dropped (members count list.now) 0 h.old.slots h.old.bar) image.now (answer barrier_of result) }
 {
     let l = places::layout_of(image);
-    let from = l.slots;
-    let end = l.young;
-    let at = l.old;
     let b = fields::old_barrier(image);
-    drops::count_dropped(&image[from..end], &image[at..], list, count, b)
+    drops::count_dropped(l.slot_lengths(image), l.elder_cells(image), list, count, b)
 }
 
 // What is no member leaves; this barrier stays.

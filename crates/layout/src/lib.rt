@@ -27,10 +27,7 @@ pub fn read_elder(image: &[u64], base: u64, offset: u64) -> Option<Words>
     ensures { ReadBy (read (decode image.now) (pointer 1 base offset)) result }
 {
     let l = places::layout_of(image);
-    let from = l.slots;
-    let end = l.young;
-    let at = l.old;
-    slots::read_old(&image[from..end], &image[at..], base, offset)
+    slots::read_old(l.slot_lengths(image), l.elder_cells(image), base, offset)
 }
 
 // The three words of cell take the place of the elder's cell at (base, offset).
@@ -75,9 +72,7 @@ pub fn room_for(image: &[u64], len: usize) -> Result<usize, Question>
     ensures { fit_answer result ≡ fit_for len (decode image.now) }
 {
     let l = places::layout_of(image);
-    let from = l.slots;
-    let end = l.young;
-    fit_in(&image[from..end], l.c, len)
+    fit_in(l.slot_lengths(image), l.c, len)
 }
 
 // These cells become the allocation at b, the base that `room_for` answered.

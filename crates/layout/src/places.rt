@@ -1,5 +1,5 @@
 // Where the parts of a given image stand.
-ghost use Rattle.std.specs.Prelude.{◌≡◌, true};
+ghost use Rattle.std.specs.Prelude.{◌≡◌, true, ◌-◌, length, take, drop};
 ghost use Rattle.model.specs.Image.{sized};
 ghost use Rattle.layout.specs.Places.{Laid};
 
@@ -17,6 +17,41 @@ pub struct Layout {
     pub slots: usize,
     pub young: usize,
     pub old: usize,
+}
+
+// The parts of the image whose layout it is, as they are read.
+impl Layout {
+    // The nursery's lengths.
+    pub fn young_lengths(self, image: &[u64]) -> &[u64]
+        requires { Laid image.now self }
+        ensures { result.now ≡ take (self.slots - self.lens) (drop self.lens image.now) }
+    {
+        &image[self.lens..self.slots]
+    }
+
+    // The elder's.
+    pub fn slot_lengths(self, image: &[u64]) -> &[u64]
+        requires { Laid image.now self }
+        ensures { result.now ≡ take (self.young - self.slots) (drop self.slots image.now) }
+    {
+        &image[self.slots..self.young]
+    }
+
+    // The nursery's cells.
+    pub fn young_cells(self, image: &[u64]) -> &[u64]
+        requires { Laid image.now self }
+        ensures { result.now ≡ take (self.old - self.young) (drop self.young image.now) }
+    {
+        &image[self.young..self.old]
+    }
+
+    // The elder's.
+    pub fn elder_cells(self, image: &[u64]) -> &[u64]
+        requires { Laid image.now self }
+        ensures { result.now ≡ take (length image.now - self.old) (drop self.old image.now) }
+    {
+        &image[self.old..]
+    }
 }
 
 pub fn layout_of(image: &[u64]) -> Layout

@@ -8,10 +8,10 @@ layout_of-l-requires c = search (image-says-sized, rules)
 
 pub count_dropped-requires : goal.count_dropped-requires
 count_dropped-requires c = record {
-  packed = parts-formed c.requires.image c.layout_of-l.ensures;
+  packed = rw (c.slot_lengths.ensures, c.elder_cells.ensures) (parts-formed c.requires.image c.layout_of-l.ensures);
   count_in_bounds = search rules;
 }
 
 pub returns : goal.returns
 returns c =
-    dropped-read c.layout_of-l.ensures c.args.count c.args.list.now c.old_barrier-b.ensures c.count_dropped.ensures
+    dropped-read c.layout_of-l.ensures c.args.count c.args.list.now c.old_barrier-b.ensures (rw (c.slot_lengths.ensures, c.elder_cells.ensures) at c.count_dropped.ensures)
