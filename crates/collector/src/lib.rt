@@ -123,7 +123,7 @@ fn collect_and_change(
     requires { Ready image.old roots.now scratch.old (New amount) 2 false }
     ensures { Worked amount image.old roots.now scratch.old result image.new scratch.new }
 {
-    let masks = Masks::of(fields::young_barrier(image));
+    let masks = Masks::of(fields::barrier_of(image, 0));
     let g = cycle::collect_and_push_allocation(
         image,
         roots,

@@ -68,7 +68,7 @@ pub fn collect_nursery(
     requires roots_in_bounds { scratch_length (decode image.old).size (length roots.now / 3) ≤ length scratch.old }
     ensures { CollectedIn image.old roots.now scratch.old result image.new scratch.new }
 {
-    let masks = Masks::of(fields::old_barrier(image));
+    let masks = Masks::of(fields::barrier_of(image, 1));
     let at = image.len();
     nursery::collect(image, roots, masks.as_slice(), &mut scratch[at..])
 }

@@ -60,7 +60,7 @@ fn count_dropped(image: &[u64], list: &[u64], count: usize) -> Result<WriteBarri
     ensures { Reads (λ h. count_dropped (members count list.now) 0 h.old.slots h.old.bar) image.now (answer barrier_of result) }
 {
     let l = places::layout_of(image);
-    let b = fields::old_barrier(image);
+    let b = fields::barrier_of(image, 1);
     drops::count_dropped(l.slot_lengths(image), l.elder_cells(image), list, count, b)
 }
 
@@ -72,7 +72,7 @@ fn sweep(image: &mut [u64], list: &[u64], count: usize, b: WriteBarrier)
     requires image_bound { (decode image.old).old.colls < most }
     ensures { Turns (on_old (swept (members count list.now) (barrier_of b))) image.old image.new }
 {
-    fields::put_old_barrier(image, b);
+    fields::put_barrier(image, 1, b);
     layout::keep_members(image, list, count);
     fields::count_old_collection(image);
 }
@@ -126,8 +126,8 @@ fn count_given(image: &mut [u64], src: &[u64]) -> Result<(), Question>
     if !cells::any_crosses(src, 1) {
         return Ok(());
     }
-    let b = cells::count_cells(src, 1, true, fields::old_barrier(image))?;
-    fields::put_old_barrier(image, b);
+    let b = cells::count_cells(src, 1, true, fields::barrier_of(image, 1))?;
+    fields::put_barrier(image, 1, b);
     Ok(())
 }
 

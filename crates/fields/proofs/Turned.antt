@@ -28,7 +28,7 @@ use Rattle.theorems.proofs.Collect.{bump-fit}
 use Rattle.words.specs.Words.{padded}
 use Rattle.value.specs.declared.Words.{Words}
 use Rattle.image.specs.Places.{size_n, young_counts_at, old_counts_at, lengths_at, slot_lengths_at, young_cells_at, old_cells_at}
-use Rattle.fields.specs.Fields.{Reads, Turns, on_young, on_old, with_bar, with_old_bar, bar_of, is_present, with_cell, restarted, collected_once, cell_in, words_of, YoungCells, CellAt}
+use Rattle.fields.specs.Fields.{Reads, Turns, on_young, on_old, with_bar, with_old_bar, bar_of, on_bar, is_present, with_cell, restarted, collected_once, cell_in, words_of, YoungCells, CellAt}
 use Rattle.fields.specs.declared.Part.{Part}
 use Rattle.fields.proofs.Parts.{decoded, sized-in, n-is, n-read, s_read, young-counts-put, old-counts-put, lengths-put, young-cells-put, young-counts, old-counts, lengths, young-cells}
 
@@ -50,10 +50,10 @@ old-fit e g f = record { sizes = g.sizes; young = g.young; old = f }
 -- the barriers
 
 module _ {f : ℕ} {cs : List ℕ} {b : Barrier} (e : f ≡ flag b) (q : cs ≡ counts b) where
-  loads : FitBarrier b → (flagged f cs ≡ true) × (length cs ≡ cache)
+  pub loads : FitBarrier b → (flagged f cs ≡ true) × (length cs ≡ cache)
   loads g = rw (e, q) (fit-flagged b g, g.size)
 
-  loaded : {r : Barrier} → r ≡ barrier f cs → b ≡ r
+  pub loaded : {r : Barrier} → r ≡ barrier f cs → b ≡ r
   loaded r = sym (r ∙ rw (e, q) (barrier-back b))
 
 module _ {w : List ℕ} {h : Heap} (i : Image w h) where
@@ -64,18 +64,6 @@ module _ {w : List ℕ} {h : Heap} (i : Image w h) where
   pub old-flag : get_or w 9 0 ≡ flag h.old.bar
   unfolding encode
   old-flag = ap (λ (l : List ℕ). get_or l 9 0) i.is
-
-  pub young-loads : (flagged (get_or w 8 0) (take 256 (drop young_counts_at w)) ≡ true) × (length (take 256 (drop young_counts_at w)) ≡ cache)
-  young-loads = loads young-flag (young-counts i) i.fit.young.bar
-
-  pub old-loads : (flagged (get_or w 9 0) (take 256 (drop old_counts_at w)) ≡ true) × (length (take 256 (drop old_counts_at w)) ≡ cache)
-  old-loads = loads old-flag (old-counts i) i.fit.old.bar
-
-pub young-read : {w : List ℕ} {b : Barrier} → b ≡ barrier (get_or w 8 0) (take 256 (drop young_counts_at w)) → Reads (λ h. h.young.bar) w b
-young-read e = record { reads = λ h i. loaded (young-flag i) (young-counts i) e }
-
-pub old-read : {w : List ℕ} {b : Barrier} → b ≡ barrier (get_or w 9 0) (take 256 (drop old_counts_at w)) → Reads (λ h. h.old.bar) w b
-old-read e = record { reads = λ h i. loaded (old-flag i) (old-counts i) e }
 
 module _ {w ys : List ℕ} {f : ℕ} {b : Barrier} (g : FitBarrier b) (e : ys ≡ counts b) (q : f ≡ flag b) where
   pub young-put : Turns (on_young (with_bar b)) w (set (put_mid young_counts_at 256 w ys) 8 f)
@@ -216,7 +204,8 @@ module _ {b : Barrier} (e : b ≡ absent) where
   pub absent-fits : FitBarrier b
   absent-fits = rw e absent-fit
 
-  pub absent-put : {w v : List ℕ} → Turns (on_young (with_bar b)) w v → Turns (on_young (with_bar absent)) w v
+  pub absent-put : {w v : List ℕ} → Turns (λ h. on_bar 0 b h) w v → Turns (on_young (with_bar absent)) w v
+  unfolding on_bar
   absent-put t = rw e at t
 
 pub emptied-turns : {w u v : List ℕ} {colls proms : ℕ} (visits : ℕ) → Reads (λ h. h.young.colls) w colls → Reads (λ h. h.young.proms) w proms

@@ -9,7 +9,7 @@ ghost use Rattle.model.specs.Image.{decode};
 ghost use Rattle.model.specs.Nursery.{bump, emptied};
 ghost use Rattle.theorems.specs.Fit.{FitBarrier, Image};
 ghost use Rattle.barrier.specs.Counts.{barrier_of};
-ghost use Rattle.fields.specs.Fields.{Reads, Turns, on_young, on_old, with_bar, with_old_bar, bar_of, on_bar, is_present, with_count, flag_at, counts_at, with_cell, restarted, collected_once, cell_in, words_of, YoungCells, CellAt};
+ghost use Rattle.fields.specs.Fields.{Reads, Turns, on_young, on_old, with_bar, bar_of, on_bar, is_present, with_count, flag_at, counts_at, with_cell, restarted, collected_once, cell_in, words_of, YoungCells, CellAt};
 
 use barrier::WriteBarrier;
 use image::layout;
@@ -71,57 +71,7 @@ pub fn old_collections(image: &[u64]) -> u64
     image[layout::OLD_COLLECTIONS]
 }
 
-pub fn young_barrier(image: &[u64]) -> WriteBarrier
-    requires { Image image.now (decode image.now) }
-    ensures { Reads (λ h. h.young.bar) image.now (barrier_of result) }
-{
-    barrier::words::load(
-        image[layout::YOUNG_PRESENT],
-        &image[layout::YOUNG_COUNTS..layout::OLD_COUNTS],
-    )
-}
-
-pub fn old_barrier(image: &[u64]) -> WriteBarrier
-    requires { Image image.now (decode image.now) }
-    ensures { Reads (λ h. h.old.bar) image.now (barrier_of result) }
-{
-    barrier::words::load(
-        image[layout::OLD_PRESENT],
-        &image[layout::OLD_COUNTS..layout::LENGTHS],
-    )
-}
-
-// The barrier of heap `own`: the nursery's for 0, else the elder's.
-pub fn barrier_of(image: &[u64], own: u8) -> WriteBarrier
-    requires { Image image.now (decode image.now) }
-    ensures { Reads (λ h. bar_of own h) image.now (barrier_of result) }
-{
-    if own == 0 {
-        young_barrier(image)
-    } else {
-        old_barrier(image)
-    }
-}
-
-pub fn put_young_barrier(image: &mut [u64], b: WriteBarrier)
-    requires image { Image image.old (decode image.old) }
-    requires fit_barrier { FitBarrier (barrier_of b) }
-    ensures { Turns (on_young (with_bar (barrier_of b))) image.old image.new }
-{
-    barrier::words::store(b, &mut image[layout::YOUNG_COUNTS..layout::OLD_COUNTS]);
-    image[layout::YOUNG_PRESENT] = barrier::words::flag_word(b);
-}
-
-pub fn put_old_barrier(image: &mut [u64], b: WriteBarrier)
-    requires image { Image image.old (decode image.old) }
-    requires fit_barrier { FitBarrier (barrier_of b) }
-    ensures { Turns (on_old (with_old_bar (barrier_of b))) image.old image.new }
-{
-    barrier::words::store(b, &mut image[layout::OLD_COUNTS..layout::LENGTHS]);
-    image[layout::OLD_PRESENT] = barrier::words::flag_word(b);
-}
-
-// Where a barrier's flag and its k-th count stand: the nursery's for 0, else the elder's.
+// Where a barrier's flag and its counts stand: the nursery's for 0, else the elder's.
 fn flag_place(own: u8) -> usize
     ensures { (result ≡ flag_at own) × (result < 10) }
 {
@@ -132,15 +82,35 @@ fn flag_place(own: u8) -> usize
     }
 }
 
-fn count_place(own: u8, k: usize) -> usize
-    requires { k < 256 }
-    ensures { (result ≡ counts_at own + k) × (result < 522) }
+fn counts_place(own: u8) -> usize
+    ensures { (result ≡ counts_at own) × (result + 256 ≤ 522) }
 {
     if own == 0 {
-        layout::YOUNG_COUNTS + k
+        layout::YOUNG_COUNTS
     } else {
-        layout::OLD_COUNTS + k
+        layout::OLD_COUNTS
     }
+}
+
+// The barrier of heap `own`.
+pub fn barrier_of(image: &[u64], own: u8) -> WriteBarrier
+    requires { Image image.now (decode image.now) }
+    ensures { Reads (λ h. bar_of own h) image.now (barrier_of result) }
+{
+    let at = counts_place(own);
+    let end = at + WriteBarrier::SIZE;
+    barrier::words::load(image[flag_place(own)], &image[at..end])
+}
+
+pub fn put_barrier(image: &mut [u64], own: u8, b: WriteBarrier)
+    requires image { Image image.old (decode image.old) }
+    requires fit_barrier { FitBarrier (barrier_of b) }
+    ensures { Turns (λ h. on_bar own (barrier_of b) h) image.old image.new }
+{
+    let at = counts_place(own);
+    let end = at + WriteBarrier::SIZE;
+    barrier::words::store(b, &mut image[at..end]);
+    image[flag_place(own)] = barrier::words::flag_word(b);
 }
 
 pub fn is_present(image: &[u64], own: u8) -> bool
@@ -156,7 +126,7 @@ pub fn put_count(image: &mut [u64], own: u8, k: usize, n: u64)
     requires k_bound { (k < 256) × (n ≤ most) }
     ensures { Turns (λ h. on_bar own (with_count k n (bar_of own h)) h) image.old image.new }
 {
-    image[count_place(own, k)] = n;
+    image[counts_place(own) + k] = n;
     image[flag_place(own)] = 1;
 }
 
@@ -243,9 +213,8 @@ fn clear_young_barrier(image: &mut [u64])
     ensures { Turns (on_young (with_bar absent)) image.old image.new }
 {
     if is_present(image, 0) {
-        let b = young_barrier(image);
-        let cleared = b.clear();
-        put_young_barrier(image, cleared);
+        let b = barrier_of(image, 0);
+        put_barrier(image, 0, b.clear());
     }
 }
 

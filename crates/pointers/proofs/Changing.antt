@@ -30,8 +30,9 @@ use Rattle.trace.proofs.Entries.{tab-cons, tab-none}
 use Rattle.layout.specs.Elder.{with_slots, Turned}
 use Rattle.changes.specs.Changes.{times, count_change}
 use Rattle.changes.proofs.Laws.{each-times, each-times-flat}
-use Rattle.fields.specs.Fields.{Reads, Turns, on_young, with_bar, with_old_bar}
-use Rattle.pointers.specs.Steps.{swapped_young, count_young, count_old, young_step, old_step, with_both, change_step, changes_step, move_at, moves_in}
+use Rattle.fields.specs.Fields.{Reads, Turns, on_young, with_bar, with_old_bar, bar_of, on_bar}
+use Rattle.fields.proofs.Counts.{bar-fit, bar-same}
+use Rattle.pointers.specs.Steps.{swapped_young, count_moved, young_step, old_step, with_both, change_step, changes_step, move_at, moves_in}
 
 -- a step's answer, beside the heap that it leaves
 abbrev left : Heap → Res (Unit {0} × Heap)
@@ -49,31 +50,30 @@ module _ (own : ℕ) (m : Ptr × ℕ) where
   times-fit zero b f = such f
   times-fit (suc k) b f = bind _ (change-fit b f) (λ d g. times-fit k d g)
 
-  module _ (put : Barrier → Heap → Heap) (bar : Heap → Barrier) (k : ℕ) where
-    abbrev step : Heap → Res (Unit {0} × Heap)
-    step h = times k (count_change own m) (bar h) >>= λ b. left (put b h)
+  module _ (k : ℕ) where
+    pub count_none : {w : List ℕ} → k ≡ 0 → Does (count_moved own k m) w (ok tt) w
+    unfolding count_moved times
+    count_none none = record { does = λ h i. rw (none, bar-same own h) (refl, i) }
 
-    pub count_none : {w : List ℕ} → ((h : Heap) → put (bar h) h ≡ h) → k ≡ 0 → Does step w (ok tt) w
-    unfolding times
-    count_none same none = record { does = λ h i. rw (none, same h) (refl, i) }
-
-    module _ {w : List ℕ} {b : Barrier} (r : Result WriteBarrier Question) (s : Reads bar w b) (e : answer barrier_of r ≡ times k (count_change own m) b) where
-      given : (h : Heap) → Image w h → answer barrier_of r ≡ times k (count_change own m) (bar h)
+    module _ {w : List ℕ} {b : Barrier} (r : Result WriteBarrier Question) (s : Reads (λ h. bar_of own h) w b) (e : answer barrier_of r ≡ times k (count_change own m) b) where
+      given : (h : Heap) → Image w h → answer barrier_of r ≡ times k (count_change own m) (bar_of own h)
       given h i = rw (s.reads h i) e
 
       module _ (d : WriteBarrier) (done : r ≡ Ok d) where
-        answered : (h : Heap) → Image w h → times k (count_change own m) (bar h) ≡ ok (barrier_of d)
+        answered : (h : Heap) → Image w h → times k (count_change own m) (bar_of own h) ≡ ok (barrier_of d)
         answered h i = sym (given h i) ∙ rw done
 
-        pub count-fit : Image w (decode w) → FitBarrier (bar (decode w)) → FitBarrier (barrier_of d)
-        count-fit i g = holds_at (times-fit k (bar (decode w)) g) (answered (decode w) i)
+        pub count-fit : Image w (decode w) → FitBarrier (barrier_of d)
+        count-fit i = holds_at (times-fit k (bar_of own (decode w)) (bar-fit i own)) (answered (decode w) i)
 
-        pub count-done : {v : List ℕ} → Turns (put (barrier_of d)) w v → Does step w (ok tt) v
+        pub count-done : {v : List ℕ} → Turns (λ h. on_bar own (barrier_of d) h) w v → Does (count_moved own k m) w (ok tt) v
+        unfolding count_moved
         count-done t = record { does = λ h i. rw (answered h i) (refl, t.turns h i) }
 
-      pub count-refused : {v : List ℕ} (q : Question) → r ≡ Err q → Does step w (refuse (number q)) v
+      pub count-refused : {v : List ℕ} (q : Question) → r ≡ Err q → Does (count_moved own k m) w (refuse (number q)) v
+      unfolding count_moved
       count-refused q out =
-          record { does = λ h i. let no : times k (count_change own m) (bar h) ≡ refuse (number q) = sym (given h i) ∙ rw out in rw no refl }
+          record { does = λ h i. let no : times k (count_change own m) (bar_of own h) ≡ refuse (number q) = sym (given h i) ∙ rw out in rw no refl }
 
 -- one pointer: its cells changed, then counted
 
@@ -82,24 +82,24 @@ carried f g (ok b) = refl
 carried f g (refuse q) = refl
 
 module _ (m : Ptr × ℕ) (k : ℕ) where
-  young-same : (h : Heap) → k ≡ length (keep_if (holds m.0) (take h.young.cursor h.young.cells)) → count_young k m (on_young (swapped_young m) h) ≡ young_step m h
-  unfolding count_young young_step swap_young swapped_young with_young with_bar
+  young-same : (h : Heap) → k ≡ length (keep_if (holds m.0) (take h.young.cursor h.young.cells)) → count_moved 0 k m (on_young (swapped_young m) h) ≡ young_step m h
+  unfolding count_moved bar_of on_bar young_step swap_young swapped_young with_young with_bar
   young-same h e =
       rw (each-times 0 m (take h.young.cursor h.young.cells) h.young.bar, ← e)
       (carried (λ b. with_bar b (swapped_young m h.young)) (λ y. with_young y h) (times k (count_change 0 m) h.young.bar))
 
-  old-same : (h : Heap) → k ≡ length (keep_if (holds m.0) (flat h.old.slots)) → count_old k m (with_slots (map (map (swap_cell m)) h.old.slots) h) ≡ old_step m h
-  unfolding count_old old_step swap_old with_old with_old_bar with_slots
+  old-same : (h : Heap) → k ≡ length (keep_if (holds m.0) (flat h.old.slots)) → count_moved 1 k m (with_slots (map (map (swap_cell m)) h.old.slots) h) ≡ old_step m h
+  unfolding count_moved bar_of on_bar old_step swap_old with_old with_old_bar with_slots
   old-same h e =
       rw (each-times-flat 1 m h.old.slots h.old.bar, ← e)
       (carried (λ b. with_old_bar b (with_slots (map (map (swap_cell m)) h.old.slots) h).old) (λ o. with_old o h) (times k (count_change 1 m) h.old.bar))
 
 module _ (m : Ptr × ℕ) {w u v : List ℕ} {k : ℕ} {r : Res (Unit {0})} where
-  pub young-changed : Turns (on_young (swapped_young m)) w u → k ≡ length (keep_if (holds m.0) (take (decode w).young.cursor (decode w).young.cells)) → Does (count_young k m) u r v → Does (young_step m) w r v
+  pub young-changed : Turns (on_young (swapped_young m)) w u → k ≡ length (keep_if (holds m.0) (take (decode w).young.cursor (decode w).young.cells)) → Does (count_moved 0 k m) u r v → Does (young_step m) w r v
   young-changed t e d =
       record { does = λ h i. subst (λ (x : Res (Unit {0} × Heap)). Meets x r v) (young-same m k h (rw (image-decode i) at e)) (d.does _ (t.turns h i)) }
 
-  pub old-changed : Turned (map (map (swap_cell m))) w u → k ≡ length (keep_if (holds m.0) (flat (decode w).old.slots)) → Does (count_old k m) u r v → Does (old_step m) w r v
+  pub old-changed : Turned (map (map (swap_cell m))) w u → k ≡ length (keep_if (holds m.0) (flat (decode w).old.slots)) → Does (count_moved 1 k m) u r v → Does (old_step m) w r v
   old-changed t e d =
       record { does = λ h i. subst (λ (x : Res (Unit {0} × Heap)). Meets x r v) (old-same m k h (rw (image-decode i) at e)) (d.does _ (t.turned h i)) }
 

@@ -8,19 +8,16 @@ use Rattle.theorems.specs.Does.{with_young, with_old}
 use Rattle.theorems.specs.Apart.{swap_both}
 use Rattle.trace.specs.Words.{tab}
 use Rattle.changes.specs.Changes.{times, move_of, count_change}
-use Rattle.fields.specs.Fields.{on_young, on_old, with_bar, with_old_bar}
+use Rattle.fields.specs.Fields.{bar_of, on_bar}
 
 -- the nursery's cells below the cursor changed, and nothing counted
 unfoldable pub swapped_young : Ptr × ℕ → Nursery → Nursery
 swapped_young m y = record { cursor = y.cursor; colls = y.colls; proms = y.proms; bar = y.bar; lens = y.lens; cells = map (swap_cell m) (take y.cursor y.cells) ++ drop y.cursor y.cells }
 
--- k changed cells counted
+-- k changed cells counted on the barrier of heap own
 
-unfoldable pub count_young : ℕ → Ptr × ℕ → Heap → Res (Unit {0} × Heap)
-count_young k m h = times k (count_change 0 m) h.young.bar >>= λ b. ok (tt, on_young (with_bar b) h)
-
-unfoldable pub count_old : ℕ → Ptr × ℕ → Heap → Res (Unit {0} × Heap)
-count_old k m h = times k (count_change 1 m) h.old.bar >>= λ b. ok (tt, on_old (with_old_bar b) h)
+unfoldable pub count_moved : ℕ → ℕ → Ptr × ℕ → Heap → Res (Unit {0} × Heap)
+count_moved own k m h = times k (count_change own m) (bar_of own h) >>= λ b. ok (tt, on_bar own b h)
 
 -- the model's steps for one pointer
 

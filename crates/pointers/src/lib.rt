@@ -14,7 +14,7 @@ ghost use Rattle.theorems.specs.Apart.{swap_roots};
 ghost use Rattle.question.specs.Question.{done_answer};
 ghost use Rattle.changes.specs.Changes.{move_of};
 ghost use Rattle.fields.specs.Fields.{Turns, on_young};
-ghost use Rattle.pointers.specs.Steps.{swapped_young, count_young, count_old, young_step, old_step, change_step, changes_step, moves_in};
+ghost use Rattle.pointers.specs.Steps.{swapped_young, count_moved, change_step, changes_step, moves_in};
 
 use layout::places;
 use question::Question;
@@ -34,52 +34,24 @@ fn swap_young(image: &mut [u64], base: u64, offset: u64, new: u64) -> usize
     slots::swap_cells(&mut image[from..end], n, 0, base, offset, new)
 }
 
-// So many such cells counted on the nursery's barrier. Without one the barrier, 256 words long, is not loaded.
-fn count_young(
+// So many such cells counted on the barrier of heap `own`. Without one the barrier, 256 words long, is not loaded.
+fn count(
     image: &mut [u64],
+    own: u8,
     k: usize,
     base: u64,
     offset: u64,
     new: u64,
 ) -> Result<(), Question>
     requires { Image image.old (decode image.old) }
-    ensures { Does (count_young k (move_of base offset new)) image.old (done_answer result) image.new }
+    ensures { Does (count_moved own k (move_of base offset new)) image.old (done_answer result) image.new }
 {
     if k == 0 {
         return Ok(());
     }
-    let b = changes::count_changes(k, 0, base, offset, new, fields::young_barrier(image))?;
-    fields::put_young_barrier(image, b);
+    let b = changes::count_changes(k, own, base, offset, new, fields::barrier_of(image, own))?;
+    fields::put_barrier(image, own, b);
     Ok(())
-}
-
-fn change_young(image: &mut [u64], base: u64, offset: u64, new: u64) -> Result<(), Question>
-    requires { Image image.old (decode image.old) }
-    ensures { Does (young_step (move_of base offset new)) image.old (done_answer result) image.new }
-{
-    let k = swap_young(image, base, offset, new);
-    count_young(image, k, base, offset, new)
-}
-
-// The same on the elder's barrier.
-fn count_old(image: &mut [u64], k: usize, base: u64, offset: u64, new: u64) -> Result<(), Question>
-    requires { Image image.old (decode image.old) }
-    ensures { Does (count_old k (move_of base offset new)) image.old (done_answer result) image.new }
-{
-    if k == 0 {
-        return Ok(());
-    }
-    let b = changes::count_changes(k, 1, base, offset, new, fields::old_barrier(image))?;
-    fields::put_old_barrier(image, b);
-    Ok(())
-}
-
-fn change_old(image: &mut [u64], base: u64, offset: u64, new: u64) -> Result<(), Question>
-    requires { Image image.old (decode image.old) }
-    ensures { Does (old_step (move_of base offset new)) image.old (done_answer result) image.new }
-{
-    let k = layout::swap_elder(image, 0, base, offset, new);
-    count_old(image, k, base, offset, new)
 }
 
 // In both generations, the nursery first.
@@ -87,8 +59,10 @@ pub fn change(image: &mut [u64], base: u64, offset: u64, new: u64) -> Result<(),
     requires { Image image.old (decode image.old) }
     ensures { Does (change_step (move_of base offset new)) image.old (done_answer result) image.new }
 {
-    change_young(image, base, offset, new)?;
-    change_old(image, base, offset, new)
+    let young = swap_young(image, base, offset, new);
+    count(image, 0, young, base, offset, new)?;
+    let old = layout::swap_elder(image, 0, base, offset, new);
+    count(image, 1, old, base, offset, new)
 }
 
 // ---- All of them: the first count entries of list, with the new base of each

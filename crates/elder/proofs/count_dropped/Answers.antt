@@ -1,5 +1,6 @@
 use borrow.Author.Rules.{rules}
 use Rattle.layout.proofs.Tail.{image-says-sized, parts-formed}
+use Rattle.fields.proofs.Counts.{old-bar}
 use Rattle.elder.proofs.Lent.{dropped-read}
 use Rattle.elder.proofs.count_dropped.Goals as goal
 
@@ -14,4 +15,4 @@ count_dropped-requires c = record {
 
 pub returns : goal.returns
 returns c =
-    dropped-read c.layout_of-l.ensures c.args.count c.args.list.now c.old_barrier-b.ensures (rw (c.slot_lengths.ensures, c.elder_cells.ensures) at c.count_dropped.ensures)
+    dropped-read c.layout_of-l.ensures c.args.count c.args.list.now (old-bar c.barrier_of-b.ensures) (rw (c.slot_lengths.ensures, c.elder_cells.ensures) at c.count_dropped.ensures)

@@ -1,8 +1,17 @@
-use Rattle.fields.proofs.Counts.{young-bar, old-bar}
+use mathlib.Core.Path.{refl}
+use native.Mathlib.Omega.{arith}
+use Rattle.fields.proofs.Parts.{sized-in}
+use Rattle.fields.proofs.Counts.{bar-loads, bar-read}
 use Rattle.fields.proofs.barrier_of.Goals as goal
 
-pub returns-then-own-eq0 : goal.returns-then-own-eq0
-returns-then-own-eq0 c = young-bar _ c.if-own-eq0.true c.young_barrier.ensures
+pub bounds-image-flag_place : goal.bounds-image-flag_place
+bounds-image-flag_place c = omega (arith, (sized-in c.requires).long)
 
-pub returns-else-own-eq0 : goal.returns-else-own-eq0
-returns-else-own-eq0 c = old-bar _ c.if-own-eq0.false c.old_barrier.ensures
+pub slice_bounds-load-end : goal.slice_bounds-load-end
+slice_bounds-load-end c = omega (arith, (sized-in c.requires).long)
+
+pub load-requires : goal.load-requires
+load-requires c = bar-loads _ c.counts_place-at.ensures.0 refl c.flag_place.ensures.0 c.requires
+
+pub returns : goal.returns
+returns c = bar-read _ c.counts_place-at.ensures.0 refl c.flag_place.ensures.0 c.load.ensures

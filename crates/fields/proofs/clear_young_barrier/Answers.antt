@@ -1,14 +1,14 @@
 use Rattle.fields.proofs.Turned.{absent-stays, absent-fits, absent-put}
 use Rattle.fields.proofs.clear_young_barrier.Goals as goal
 
-pub put_young_barrier-requires : goal.put_young_barrier-requires
-put_young_barrier-requires c = record {
+pub put_barrier-requires : goal.put_barrier-requires
+put_barrier-requires c = record {
   image = c.requires;
-  fit_barrier = absent-fits c.clear-cleared.ensures;
+  fit_barrier = absent-fits c.clear.ensures;
 }
 
 pub returns-then-is_present : goal.returns-then-is_present
-returns-then-is_present c = absent-put c.clear-cleared.ensures c.put_young_barrier.ensures
+returns-then-is_present c = absent-put c.clear.ensures c.put_barrier.ensures
 
 pub returns-else-is_present : goal.returns-else-is_present
 returns-else-is_present c = absent-stays c.is_present.ensures c.if-is_present.false

@@ -1,4 +1,5 @@
 use mathlib.Core.Path.{◌∙◌}
+use Rattle.fields.proofs.Counts.{old-bar}
 use Rattle.cycle.proofs.Lending.{image-inside, young-list-long, collected-in}
 use Rattle.cycle.proofs.scratch.collect_nursery.Goals as goal
 
@@ -18,4 +19,4 @@ collect-requires c = record {
 
 pub returns : goal.returns
 returns c =
-    collected-in c.requires.image c.args.roots.now c.args.scratch.now c.requires.roots_in_bounds c.collect.new.list c.old_barrier.ensures (c.as_slice.ensures ∙ c.of-masks.ensures) c.collect.ensures
+    collected-in c.requires.image c.args.roots.now c.args.scratch.now c.requires.roots_in_bounds c.collect.new.list (old-bar c.barrier_of.ensures) (c.as_slice.ensures ∙ c.of-masks.ensures) c.collect.ensures

@@ -2,7 +2,7 @@ use mathlib.Core.Path.{ap}
 use native.Mathlib.Omega.{arith}
 use Rattle.fields.specs.Fields.{counts_at}
 use Rattle.fields.proofs.Counts.{elder-own}
-use Rattle.fields.proofs.count_place.Goals as goal
+use Rattle.fields.proofs.counts_place.Goals as goal
 
 pub returns-then-own-eq0 : goal.returns-then-own-eq0
 returns-then-own-eq0 c = (omega (arith, ap counts_at c.if-own-eq0.true), omega arith)

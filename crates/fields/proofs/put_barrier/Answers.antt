@@ -1,0 +1,15 @@
+use borrow.Author.Rules.{rules}
+use mathlib.Core.Path.{refl}
+use native.Mathlib.Omega.{arith}
+use Rattle.fields.proofs.Parts.{sized-in, header-kept}
+use Rattle.fields.proofs.Counts.{bar-loads, bar-put}
+use Rattle.fields.proofs.put_barrier.Goals as goal
+
+pub slice_bounds-store-end : goal.slice_bounds-store-end
+slice_bounds-store-end c = omega (arith, (sized-in c.requires.image).long)
+
+pub store-requires : goal.store-requires
+store-requires c = (bar-loads _ c.counts_place-at.ensures.0 refl refl c.requires.image).1
+
+pub returns : goal.returns
+returns c = bar-put _ c.counts_place-at.ensures.0 refl c.flag_place.ensures.0 c.requires.fit_barrier c.store.ensures c.flag_word.ensures
