@@ -56,7 +56,7 @@ fn read_young(image: &[u64], base: u64, offset: i64) -> Loaded
     requires { Image image.now (decode image.now) }
     ensures { Loads (read (decode image.now) (pointer 0 base (of_z w64 offset))) result }
 {
-    let n = fields::size_n(image) as usize;
+    let n = fields::header_of(image).n as usize;
     match places::index(base, offset, n) {
         Ok(i) => Loaded::Value(young_value(image, i)),
         Err(q) => Loaded::Refused(q.number()),
@@ -123,7 +123,7 @@ fn store_young(image: &mut [u64], i: usize, cell: &[u64]) -> Stored
 {
     let old = young_value(image, i);
     let new = new_value(cell);
-    let end = fields::cursor(image);
+    let end = fields::header_of(image).cursor;
     let out = (i as u64) < end;
     match count_young(image, out, old, new) {
         Stored::Done => {
@@ -139,7 +139,7 @@ fn write_young(image: &mut [u64], base: u64, offset: i64, cell: &[u64]) -> Store
     requires cell_value { value_good cell.now ≡ true }
     ensures { Leaves (write (decode image.old) (pointer 0 base (of_z w64 offset)) (cell_in cell.now)) image.old result image.new }
 {
-    let n = fields::size_n(image) as usize;
+    let n = fields::header_of(image).n as usize;
     match places::index(base, offset, n) {
         Ok(i) => store_young(image, i, cell),
         Err(q) => Stored::Refused(q.number()),

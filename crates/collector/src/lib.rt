@@ -46,9 +46,10 @@ fn scratch_for(image: &[u64], roots: &[u64]) -> usize
     requires roots_value { roots_good roots.now ≡ true }
     ensures { result ≡ scratch_length (decode image.now).size (length roots.now / 3) }
 {
-    let n = fields::size_n(image) as usize;
-    let s = fields::size_s(image) as usize;
-    let c = fields::size_c(image) as usize;
+    let h = fields::header_of(image);
+    let n = h.n as usize;
+    let s = h.s as usize;
+    let c = h.c as usize;
     image::layout::scratch_length(n, s, c, roots.len() / 3)
 }
 
@@ -58,7 +59,7 @@ fn stay_young(image: &mut [u64], amount: u64) -> Allocation
     requires amount_nonzero { (0 < amount) × (amount < (decode image.old).size.n - (decode image.old).young.cursor) }
     ensures { (roots : List ℕ) → roots_good roots ≡ true → allocated image.old roots (alloc (decode image.old) (cells_in roots) amount) ≡ alloc_outcome (Ok result) image.new roots }
 {
-    let base = fields::cursor(image);
+    let base = fields::header_of(image).cursor;
     fields::bump(image, amount);
     let pointer = Pointer {
         heap: 0,

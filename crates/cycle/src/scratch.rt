@@ -21,7 +21,7 @@ pub fn bases_at(image: &[u64], roots: &[u64]) -> usize
     requires roots_bound { old_list_at (decode image.now).size (length roots.now / 3) < 2 ^ 64 }
     ensures { result ≡ bases_at (decode image.now).size (length roots.now / 3) }
 {
-    let n = fields::size_n(image) as usize;
+    let n = fields::header_of(image).n as usize;
     image.len() + 3 * (roots.len() / 3 + 2 * n)
 }
 
@@ -31,7 +31,7 @@ fn old_list_at(image: &[u64], roots: &[u64]) -> usize
     requires roots_bound { old_list_at (decode image.now).size (length roots.now / 3) < 2 ^ 64 }
     ensures { result ≡ old_list_at (decode image.now).size (length roots.now / 3) }
 {
-    let n = fields::size_n(image) as usize;
+    let n = fields::header_of(image).n as usize;
     image.len() + 4 * (roots.len() / 3 + 2 * n)
 }
 

@@ -96,7 +96,7 @@ fn bump(image: &mut [u64], amount: u64) -> Gave
     requires amount_nonzero { (0 < amount) × (amount < (decode image.old).size.n - (decode image.old).young.cursor) }
     ensures { Gives (bumped amount) image.old (Ok result) image.new }
 {
-    let base = fields::cursor(image);
+    let base = fields::header_of(image).cursor;
     fields::bump(image, amount);
     Gave::at(0, base)
 }

@@ -31,7 +31,7 @@ pub fn is_full(image: &[u64]) -> bool
 {
     let l = places::layout_of(image);
     let n = slots::held(l.slot_lengths(image)) as u64;
-    fields::size_t(image) <= n
+    fields::header_of(image).t <= n
 }
 
 // ---- Collection
@@ -83,7 +83,7 @@ fn collect_with(image: &mut [u64], list: &[u64], count: usize) -> Result<u64, Qu
     requires count_in_bounds { 3 * count ≤ length list.now }
     ensures { Collects (collect_with (members count list.now)) image.old result image.new }
 {
-    if MOST <= fields::old_collections(image) {
+    if MOST <= fields::header_of(image).old_collections {
         return Err(Question::Bound);
     }
     let b = count_dropped(image, list, count)?;

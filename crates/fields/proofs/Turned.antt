@@ -30,7 +30,7 @@ use Rattle.value.specs.declared.Words.{Words}
 use Rattle.image.specs.Places.{size_n, young_counts_at, old_counts_at, lengths_at, slot_lengths_at, young_cells_at, old_cells_at}
 use Rattle.fields.specs.Fields.{Reads, Turns, on_young, on_old, with_bar, with_old_bar, bar_of, on_bar, is_present, with_cell, restarted, collected_once, cell_in, words_of, YoungCells, CellAt}
 use Rattle.fields.specs.declared.Part.{Part}
-use Rattle.fields.proofs.Parts.{decoded, sized-in, n-is, n-read, s_read, young-counts-put, old-counts-put, lengths-put, young-cells-put, young-counts, old-counts, lengths, young-cells}
+use Rattle.fields.proofs.Parts.{decoded, sized-in, n-is, n-read, s_read, young-counts-put, old-counts-put, lengths-put, young-cells-put, lengths, young-cells}
 
 -- one operation after the other
 

@@ -15,60 +15,40 @@ use barrier::WriteBarrier;
 use image::layout;
 use value::Words;
 
-pub fn size_n(image: &[u64]) -> u64
-    requires { Image image.now (decode image.now) }
-    ensures { Reads (λ h. h.size.n) image.now result }
-{
-    image[layout::SIZE_N]
+// The sizes, the nursery's cursor and counters, and the elder's counter.
+#[derive(Clone, Copy)]
+pub struct Header {
+    pub n: u64,
+    pub t: u64,
+    pub s: u64,
+    pub c: u64,
+    pub cursor: u64,
+    pub young_collections: u64,
+    pub promotions: u64,
+    pub old_collections: u64,
 }
 
-pub fn size_t(image: &[u64]) -> u64
+pub fn header_of(image: &[u64]) -> Header
     requires { Image image.now (decode image.now) }
-    ensures { Reads (λ h. h.size.t) image.now result }
+    ensures n { Reads (λ h. h.size.n) image.now result.n }
+    ensures t { Reads (λ h. h.size.t) image.now result.t }
+    ensures s { Reads (λ h. h.size.s) image.now result.s }
+    ensures c { Reads (λ h. h.size.c) image.now result.c }
+    ensures cursor { Reads (λ h. h.young.cursor) image.now result.cursor }
+    ensures young_collections { Reads (λ h. h.young.colls) image.now result.young_collections }
+    ensures promotions { Reads (λ h. h.young.proms) image.now result.promotions }
+    ensures old_collections { Reads (λ h. h.old.colls) image.now result.old_collections }
 {
-    image[layout::SIZE_T]
-}
-
-pub fn size_s(image: &[u64]) -> u64
-    requires { Image image.now (decode image.now) }
-    ensures { Reads (λ h. h.size.s) image.now result }
-{
-    image[layout::SIZE_S]
-}
-
-pub fn size_c(image: &[u64]) -> u64
-    requires { Image image.now (decode image.now) }
-    ensures { Reads (λ h. h.size.c) image.now result }
-{
-    image[layout::SIZE_C]
-}
-
-pub fn cursor(image: &[u64]) -> u64
-    requires { Image image.now (decode image.now) }
-    ensures { Reads (λ h. h.young.cursor) image.now result }
-{
-    image[layout::CURSOR]
-}
-
-pub fn young_collections(image: &[u64]) -> u64
-    requires { Image image.now (decode image.now) }
-    ensures { Reads (λ h. h.young.colls) image.now result }
-{
-    image[layout::YOUNG_COLLECTIONS]
-}
-
-pub fn promotions(image: &[u64]) -> u64
-    requires { Image image.now (decode image.now) }
-    ensures { Reads (λ h. h.young.proms) image.now result }
-{
-    image[layout::PROMOTIONS]
-}
-
-pub fn old_collections(image: &[u64]) -> u64
-    requires { Image image.now (decode image.now) }
-    ensures { Reads (λ h. h.old.colls) image.now result }
-{
-    image[layout::OLD_COLLECTIONS]
+    Header {
+        n: image[layout::SIZE_N],
+        t: image[layout::SIZE_T],
+        s: image[layout::SIZE_S],
+        c: image[layout::SIZE_C],
+        cursor: image[layout::CURSOR],
+        young_collections: image[layout::YOUNG_COLLECTIONS],
+        promotions: image[layout::PROMOTIONS],
+        old_collections: image[layout::OLD_COLLECTIONS],
+    }
 }
 
 // Where a barrier's flag and its counts stand: the nursery's for 0, else the elder's.
@@ -141,8 +121,9 @@ fn young_part(image: &[u64]) -> Part
     requires { Image image.now (decode image.now) }
     ensures { YoungCells image.now result }
 {
-    let n = size_n(image) as usize;
-    let s = size_s(image) as usize;
+    let h = header_of(image);
+    let n = h.n as usize;
+    let s = h.s as usize;
     let from = layout::young_cells(n, s);
     let end = layout::old_cells(n, s);
     Part { from, end }
@@ -189,7 +170,7 @@ pub fn bump(image: &mut [u64], amount: u64)
     requires amount_nonzero { (0 < amount) × (amount < (decode image.old).size.n - (decode image.old).young.cursor) }
     ensures { Turns (on_young (λ y. bump y amount)) image.old image.new }
 {
-    let at = cursor(image);
+    let at = header_of(image).cursor;
     image[layout::LENGTHS + at as usize] = amount;
     image[layout::CURSOR] = at + amount;
 }
@@ -200,7 +181,7 @@ fn restart(image: &mut [u64], collections: u64, promotions: u64)
     requires collections_le_most { (collections ≤ most) × (promotions ≤ most) }
     ensures { Turns (on_young (restarted collections promotions)) image.old image.new }
 {
-    let behind = layout::slot_lengths(size_n(image) as usize);
+    let behind = layout::slot_lengths(header_of(image).n as usize);
     words::zero_from(&mut image[layout::LENGTHS..behind], 0);
     image[layout::CURSOR] = 0;
     image[layout::YOUNG_COLLECTIONS] = collections;
@@ -224,8 +205,9 @@ pub fn empty_nursery(image: &mut [u64], visits: u64)
     requires image_bound { ((decode image.old).young.colls < most) × ((decode image.old).young.proms + visits ≤ most) }
     ensures { Turns (on_young (λ y. emptied y visits)) image.old image.new }
 {
-    let collections = young_collections(image) + 1;
-    let moved = promotions(image) + visits;
+    let h = header_of(image);
+    let collections = h.young_collections + 1;
+    let moved = h.promotions + visits;
     clear_young_barrier(image);
     restart(image, collections, moved);
 }
@@ -235,5 +217,5 @@ pub fn count_old_collection(image: &mut [u64])
     requires image_bound { (decode image.old).old.colls < most }
     ensures { Turns (on_old collected_once) image.old image.new }
 {
-    image[layout::OLD_COLLECTIONS] = old_collections(image) + 1;
+    image[layout::OLD_COLLECTIONS] = header_of(image).old_collections + 1;
 }

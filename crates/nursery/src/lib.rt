@@ -27,8 +27,8 @@ pub fn fits(image: &[u64], amount: u64) -> bool
     requires { Image image.now (decode image.now) }
     ensures { Reads (λ h. ltb amount (h.size.n - h.young.cursor)) image.now result }
 {
-    let n = fields::size_n(image);
-    amount < n - fields::cursor(image)
+    let h = fields::header_of(image);
+    amount < h.n - h.cursor
 }
 
 // Lists the members of a collection; how many there are.
@@ -68,7 +68,8 @@ pub fn collect(
     requires image_in_bounds { 3 * (length roots.now / 3 + 2 * (decode image.old).size.n) ≤ length list.old }
     ensures { Does (collect_step (cells_in roots.now) masks.now) image.old (collected_answer result list.new) image.new }
 {
-    if MOST <= fields::young_collections(image) {
+    let h = fields::header_of(image);
+    if MOST <= h.young_collections {
         return Err(Question::Bound);
     }
     let entered = members(image, roots, masks, list);
@@ -77,7 +78,7 @@ pub fn collect(
         return Err(Question::Allocation);
     }
     let visits = entered as u64;
-    if MOST - fields::promotions(image) < visits {
+    if MOST - h.promotions < visits {
         return Err(Question::Bound);
     }
     fields::empty_nursery(image, visits);

@@ -27,7 +27,7 @@ fn swap_young(image: &mut [u64], base: u64, offset: u64, new: u64) -> usize
     ensures turns { Turns (on_young (swapped_young (move_of base offset new))) image.old image.new }
     ensures value { result ≡ length (keep_if (holds (move_of base offset new).0) (take (decode image.old).young.cursor (decode image.old).young.cells)) }
 {
-    let n = fields::cursor(image) as usize;
+    let n = fields::header_of(image).cursor as usize;
     let l = places::layout_of(image);
     let from = l.young;
     let end = from + 3 * n;

@@ -77,7 +77,7 @@ fn young_allocations(image: &[u64]) -> u64
     requires { Image image.now (decode image.now) }
     ensures { Reads (λ h. length (places 0 h.young.lens)) image.now result }
 {
-    let end = image::layout::slot_lengths(fields::size_n(image) as usize);
+    let end = image::layout::slot_lengths(fields::header_of(image).n as usize);
     slots::held(&image[image::layout::LENGTHS..end]) as u64
 }
 
@@ -98,13 +98,13 @@ fn young_numbers(image: &[u64]) -> Nursery
     requires { Image image.now (decode image.now) }
     ensures { Reads (λ h. take 6 (statistics h)) image.now (young_numbers result) }
 {
-    let n = fields::size_n(image);
-    let cells = fields::cursor(image);
-    let free = n - cells;
-    let collections = fields::young_collections(image);
+    let h = fields::header_of(image);
+    let collections = h.young_collections;
+    let cells = h.cursor;
+    let free = h.n - cells;
     let allocations = young_allocations(image);
     let references = references(image, 0);
-    let promotions = fields::promotions(image);
+    let promotions = h.promotions;
     Nursery {
         collections,
         allocations,
@@ -122,7 +122,7 @@ fn old_numbers(image: &[u64]) -> Elder
     let l = places::layout_of(image);
     let from = l.slots;
     let end = l.young;
-    let collections = fields::old_collections(image);
+    let collections = fields::header_of(image).old_collections;
     let allocations = slots::held(&image[from..end]) as u64;
     let cells = slots::in_use(&image[from..end]) as u64;
     let references = references(image, 1);

@@ -13,7 +13,7 @@ use Rattle.access.proofs.read_young.Goals.{After-index}
 
 found : (c : After-index) → place_answer c.index.result ≡ young_at (decode c.args.image.now) (pointer 0 c.args.base (of_z w64 c.args.offset))
 found c =
-    rw (to_z-of_z w64 c.args.offset c.ranges.offset) at (c.index.ensures (decode c.args.image.now) (c.size_n-n.ensures.reads _ c.requires))
+    rw (to_z-of_z w64 c.args.offset c.ranges.offset) at (c.index.ensures (decode c.args.image.now) (c.header_of-n.ensures.n.reads _ c.requires))
 
 pub young_value-requires : goal.young_value-requires
 young_value-requires c = record {

@@ -7,4 +7,4 @@ pub layout_of-l-requires : goal.layout_of-l-requires
 layout_of-l-requires c = search (image-says-sized, rules)
 
 pub returns : goal.returns
-returns c = full_is c.layout_of-l.ensures c.size_t.ensures (rw c.slot_lengths.ensures at c.held-n.ensures)
+returns c = full_is c.layout_of-l.ensures c.header_of.ensures.t (rw c.slot_lengths.ensures at c.held-n.ensures)

@@ -5,19 +5,19 @@ use Rattle.fields.proofs.Turned.{bump-room, bump-turns}
 use Rattle.fields.proofs.bump.Goals as goal
 
 pub overflow_add-image : goal.overflow_add-image
-overflow_add-image c = omega (arith, bump-room _ c.cursor-at.ensures c.requires.amount_nonzero.1 c.requires.image)
+overflow_add-image c = omega (arith, bump-room _ c.header_of-at.ensures.cursor c.requires.amount_nonzero.1 c.requires.image)
 
 pub offset_bounds-image-at : goal.offset_bounds-image-at
-offset_bounds-image-at c = omega (arith, bump-room _ c.cursor-at.ensures c.requires.amount_nonzero.1 c.requires.image)
+offset_bounds-image-at c = omega (arith, bump-room _ c.header_of-at.ensures.cursor c.requires.amount_nonzero.1 c.requires.image)
 
 pub bounds-image-at : goal.bounds-image-at
-bounds-image-at c = omega (arith, bump-room _ c.cursor-at.ensures c.requires.amount_nonzero.1 c.requires.image)
+bounds-image-at c = omega (arith, bump-room _ c.header_of-at.ensures.cursor c.requires.amount_nonzero.1 c.requires.image)
 
 pub overflow_add-image-2 : goal.overflow_add-image-2
-overflow_add-image-2 c = omega (arith, bump-room _ c.cursor-at.ensures c.requires.amount_nonzero.1 c.requires.image)
+overflow_add-image-2 c = omega (arith, bump-room _ c.header_of-at.ensures.cursor c.requires.amount_nonzero.1 c.requires.image)
 
 pub bounds-image-4 : goal.bounds-image-4
 bounds-image-4 c = search (header-in c.requires.image, rules)
 
 pub returns : goal.returns
-returns c = bump-turns _ c.cursor-at.ensures c.requires.amount_nonzero.1 c.requires.amount_nonzero.0
+returns c = bump-turns _ c.header_of-at.ensures.cursor c.requires.amount_nonzero.1 c.requires.amount_nonzero.0

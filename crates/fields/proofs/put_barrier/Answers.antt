@@ -1,7 +1,6 @@
-use borrow.Author.Rules.{rules}
 use mathlib.Core.Path.{refl}
 use native.Mathlib.Omega.{arith}
-use Rattle.fields.proofs.Parts.{sized-in, header-kept}
+use Rattle.fields.proofs.Parts.{sized-in}
 use Rattle.fields.proofs.Counts.{bar-loads, bar-put}
 use Rattle.fields.proofs.put_barrier.Goals as goal
 

@@ -7,13 +7,13 @@ use Rattle.fields.proofs.restart.Goals as goal
 pub slot_lengths-behind-requires : goal.slot_lengths-behind-requires
 slot_lengths-behind-requires c =
     let pre = c.requires in
-    let n = c.size_n.ensures in
+    let n = c.header_of.ensures.n in
     omega (arith, n-read pre.image n, (sized-in pre.image).bounds.n)
 
 pub slice_bounds-zero_from-end : goal.slice_bounds-zero_from-end
 slice_bounds-zero_from-end c =
     let pre = c.requires in
-    let n = c.size_n.ensures in
+    let n = c.header_of.ensures.n in
     omega (arith, n-read pre.image n, (sized-in pre.image).long)
 
 pub bounds-image-4 : goal.bounds-image-4
@@ -28,5 +28,5 @@ bounds-image-6 c = search (header-kept c.requires.image, rules)
 pub returns : goal.returns
 returns c =
     let pre = c.requires in
-    let n = c.size_n.ensures in
+    let n = c.header_of.ensures.n in
     restart-turns n c.slot_lengths-behind.ensures pre.collections_le_most.0 pre.collections_le_most.1 c.zero_from.ensures

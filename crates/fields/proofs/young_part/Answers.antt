@@ -6,8 +6,8 @@ use Rattle.fields.proofs.young_part.Goals as goal
 pub young_cells-from-requires : goal.young_cells-from-requires
 young_cells-from-requires c =
     let pre = c.requires in
-    let n = c.size_n-n.ensures in
-    let s = c.size_s-s.ensures in
+    let n = c.header_of-h.ensures.n in
+    let s = c.header_of-h.ensures.s in
     let z = sized-in pre in
     let a = n-read pre n in
     let b = s_read pre s in
@@ -16,8 +16,8 @@ young_cells-from-requires c =
 pub old_cells-end-requires : goal.old_cells-end-requires
 old_cells-end-requires c =
     let pre = c.requires in
-    let n = c.size_n-n.ensures in
-    let s = c.size_s-s.ensures in
+    let n = c.header_of-h.ensures.n in
+    let s = c.header_of-h.ensures.s in
     let z = sized-in pre in
     let a = n-read pre n in
     let b = s_read pre s in
@@ -26,6 +26,6 @@ old_cells-end-requires c =
 pub returns : goal.returns
 returns c =
     let pre = c.requires in
-    let n = c.size_n-n.ensures in
-    let s = c.size_s-s.ensures in
+    let n = c.header_of-h.ensures.n in
+    let s = c.header_of-h.ensures.s in
     part-found _ pre n s c.young_cells-from.ensures c.old_cells-end.ensures

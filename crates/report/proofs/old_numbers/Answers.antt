@@ -13,4 +13,4 @@ in_use-cells-requires c = used-fits c.layout_of-l.ensures c.requires
 pub returns : goal.returns
 unfolding bar_of
 returns c =
-    old-taken c.layout_of-l.ensures _ c.old_collections-collections.ensures c.held-allocations.ensures c.in_use-cells.ensures c.references-references.ensures
+    old-taken c.layout_of-l.ensures _ c.header_of-collections.ensures.old_collections c.held-allocations.ensures c.in_use-cells.ensures c.references-references.ensures

@@ -4,9 +4,9 @@ use Rattle.report.proofs.Taking.{cursor-within, young-taken}
 use Rattle.report.proofs.young_numbers.Goals as goal
 
 pub overflow_sub-free : goal.overflow_sub-free
-overflow_sub-free c = cursor-within c.size_n-n.ensures c.cursor-cells.ensures c.requires
+overflow_sub-free c = cursor-within c.header_of-h.ensures.n c.header_of-h.ensures.cursor c.requires
 
 pub returns : goal.returns
 unfolding bar_of
 returns c =
-    young-taken _ c.size_n-n.ensures refl c.young_collections-collections.ensures c.young_allocations-allocations.ensures c.cursor-cells.ensures c.references-references.ensures c.promotions-promotions.ensures
+    young-taken _ c.header_of-h.ensures.n refl c.header_of-h.ensures.young_collections c.young_allocations-allocations.ensures c.header_of-h.ensures.cursor c.references-references.ensures c.header_of-h.ensures.promotions
