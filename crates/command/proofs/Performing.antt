@@ -21,8 +21,7 @@ use Rattle.registers.specs.Cells.{Good}
 use Rattle.command.specs.declared.answers.Answer.{Answer}
 use Rattle.command.specs.declared.answers.Answer.TheVariants.{Refused}
 use Rattle.command.specs.declared.State.{State}
-use Rattle.command.specs.declared.Performed.{Performed}
-use Rattle.command.specs.State.{Held, holding, heapless}
+use Rattle.command.specs.State.{Held, heapless}
 use Rattle.command.specs.Steps.{is_new, Acts, Performs}
 use Rattle.command.proofs.Heaps.{heap-there, refuses}
 
@@ -47,9 +46,10 @@ not_new (variants.Figure r) h e = false≢true e
 pub heap-lent : (k : ℕ) (buffer : List ℕ) → k ≤ length buffer → (k ≡ 0 → ⊥) → 0 < length (take k buffer)
 heap-lent k buffer l h = omega (arith, length-take-le k buffer l)
 
--- the state after a command has its answer and registers
-pub left_as : {c : Command} {buffer buffer' : List ℕ} {s : State} {a : Answer} {k : ℕ} {r : Registers} {p : Performed} → (p.answer ≡ a) × (p.state ≡ holding k r) → Performs c buffer s a buffer' (holding k r) → Performs c buffer s p.answer buffer' p.state
-left_as (answer, state) d = rw (answer, state) d
+-- a state of no words is heapless
 
 pub heapless-performs : {c : Command} {buffer buffer' : List ℕ} {s s' : State} {a : Answer} → s.words ≡ 0 → Performs c buffer (heapless s.registers) a buffer' s' → Performs c buffer s a buffer' s'
 heapless-performs {c} {buffer} {buffer'} {s} {s'} {a} e = subst (λ (x : State). Performs c buffer x a buffer' s') (λ i. record { words = sym e i; registers = s.registers })
+
+pub heapless-stays : {c : Command} {buffer buffer' : List ℕ} {s : State} {a : Answer} → s.words ≡ 0 → Performs c buffer (heapless s.registers) a buffer' (heapless s.registers) → Performs c buffer s a buffer' s
+heapless-stays {c} {buffer} {buffer'} {s} {a} e = subst (λ (x : State). Performs c buffer x a buffer' x) (λ i. record { words = sym e i; registers = s.registers })

@@ -38,8 +38,6 @@ use Rattle.command.specs.declared.answers.Answer.{Answer}
 use Rattle.command.specs.declared.answers.Answer.TheVariants as answer
 use Rattle.command.specs.State.{heap_in, state_of, Held}
 use Rattle.command.specs.Steps.{target_answer, target_in, Acts}
-use Rattle.command.specs.declared.Target.{Target}
-use Rattle.command.specs.declared.Target.TheVariants as target
 use Rattle.command.proofs.Heaps.{no-heap, the_heap_lem, refuses, answers}
 use Rattle.command.proofs.Stored.{written_as, done-left, refused-left, held-written, heap-written}
 
@@ -128,15 +126,15 @@ module _ {w : List ℕ} {r : Registers} (k p d : ℕ) (h : Held w) (g : Good r) 
   unfolding step
   load-heapless e = refuses h g (rw (no-heap w r e))
 
-  module _ (l : 0 < length w) (v : Value) (at : v ≡ get_or r.cells p unset) (t : Target) (e : target_answer t ≡ target_in (value_cell v) d) where
+  module _ (l : 0 < length w) (v : Value) (at : v ≡ get_or r.cells p unset) (t : Result Pointer Question) (e : target_answer t ≡ target_in (value_cell v) d) where
     load_is : step (load k p d) (state_of w r) ≡ (target_answer t >>= λ y. read (decode w) y >>= put_in w r k)
     unfolding step register state_of
     load_is = aimed w r l (get_or (cells_of_registers r) p blank) d (λ h y. read h y >>= put_in w r k) ∙ rw (← got_cell r p at, ← e)
 
-    pub load-nowhere : {q : ℕ} {a : Answer} {s : Registers} → t ≡ target.Refused q → (a ≡ answer.Refused q) × (s ≡ r) → Acts (load k p d) w r a w s
-    load-nowhere f = refuses h g (rw (load_is, f))
+    pub load-nowhere : {q : Question} {n : ℕ} {a : Answer} {s : Registers} → t ≡ Err q → n ≡ number q → (a ≡ answer.Refused n) × (s ≡ r) → Acts (load k p d) w r a w s
+    load-nowhere f m = refuses h g (rw (load_is, f, m))
 
-    module _ {y : Pointer} (aim : t ≡ target.Is y) (x : Loaded) (m : Loads (read (decode w) (pointer_of y)) x) where
+    module _ {y : Pointer} (aim : t ≡ Ok y) (x : Loaded) (m : Loads (read (decode w) (pointer_of y)) x) where
       load-reads : step (load k p d) (state_of w r) ≡ (loaded_cell x >>= put_in w r k)
       load-reads = rw (load_is, aim, ← m.cell)
 
@@ -161,16 +159,16 @@ module _ {w : List ℕ} {r : Registers} (k p d : ℕ) (h : Held w) (g : Good r) 
   unfolding step
   store-heapless e = refuses h g (rw (no-heap w r e))
 
-  module _ (l : 0 < length w) (v : Value) (at : v ≡ get_or r.cells p unset) (t : Target) (e : target_answer t ≡ target_in (value_cell v) d)
+  module _ (l : 0 < length w) (v : Value) (at : v ≡ get_or r.cells p unset) (t : Result Pointer Question) (e : target_answer t ≡ target_in (value_cell v) d)
       (u : Value) (here : u ≡ get_or r.cells k unset) where
     store_is : step (store k p d) (state_of w r) ≡ (target_answer t >>= λ y. write (decode w) y (value_cell u) >>= kept w r)
     unfolding step register state_of
     store_is = aimed w r l (get_or (cells_of_registers r) p blank) d (λ h y. write h y (get_or (cells_of_registers r) k blank) >>= kept w r) ∙ rw (← got_cell r p at, ← e, ← got_cell r k here)
 
-    pub store-nowhere : {q : ℕ} {a : Answer} {s : Registers} → t ≡ target.Refused q → (a ≡ answer.Refused q) × (s ≡ r) → Acts (store k p d) w r a w s
-    store-nowhere f = refuses h g (rw (store_is, f))
+    pub store-nowhere : {q : Question} {n : ℕ} {a : Answer} {s : Registers} → t ≡ Err q → n ≡ number q → (a ≡ answer.Refused n) × (s ≡ r) → Acts (store k p d) w r a w s
+    store-nowhere f m = refuses h g (rw (store_is, f, m))
 
-    module _ {y : Pointer} (aim : t ≡ target.Is y) {a b o : ℕ} (words : (a ∷ b ∷ o ∷ []) ≡ cell_words (value_cell u ∷ []))
+    module _ {y : Pointer} (aim : t ≡ Ok y) {a b o : ℕ} (words : (a ∷ b ∷ o ∷ []) ≡ cell_words (value_cell u ∷ []))
         (x : Stored) (z : List ℕ) (m : left w (write_on (decode w) (pointer_of y) (a ∷ b ∷ o ∷ [])) ≡ stored_outcome x z) where
       good : GoodValue u
       good = got-good r k here g

@@ -1,22 +1,23 @@
 -- What one command does: its answer in numbers and the state after it are those of the model's step.
-use Rattle.std.specs.Prelude.{◌≡◌, Bool, true, false, List, ℕ}
-use Rattle.model.specs.Res.{Res, ok, refuse, ◌>>=◌}
+use Rattle.std.specs.Prelude.{◌≡◌, Bool, true, false, List, ℕ, Result, Ok, Err}
+use Rattle.model.specs.Res.{Res, ◌>>=◌}
 use Rattle.model.specs.Records.{Ptr, Cell}
 use Rattle.model.specs.Command.{Command, new, alloc, set, load, store, report, figure}
 use Rattle.model.specs.Run.{pointer_in, added, step, stepped}
+use Rattle.question.specs.declared.Question.{Question}
+use Rattle.question.specs.Question.{number, answer}
+use Rattle.value.specs.declared.Pointer.{Pointer}
 use Rattle.access.specs.Access.{pointer_of}
 use Rattle.registers.specs.declared.Registers.{Registers}
 use Rattle.registers.specs.Cells.{Good}
 use Rattle.command.specs.declared.answers.Answer.{Answer}
+use Rattle.command.specs.declared.answers.Answer.TheVariants.{New, Refused}
 use Rattle.command.specs.declared.State.{State}
-use Rattle.command.specs.declared.Target.{Target}
-use Rattle.command.specs.declared.Target.TheVariants.{Is, Refused}
 use Rattle.command.specs.Answers.{answer_line, GoodAnswer}
 use Rattle.command.specs.State.{state_of, Held, state_in, Ready}
 
-abbrev pub target_answer : Target → Res Ptr
-target_answer (Is p) = ok (pointer_of p)
-target_answer (Refused q) = refuse q
+abbrev pub target_answer : Result Pointer Question → Res Ptr
+target_answer r = answer pointer_of r
 
 -- a pointer (13), with an offset added (9)
 unfoldable pub target_in : Cell → ℕ → Res Ptr
@@ -43,3 +44,12 @@ pub record Performs (c : Command) (buffer : List ℕ) (s : State) (a : Answer) (
   pub stepping : stepped (state_in buffer s) (step c (state_in buffer s)) ≡ (answer_line a, state_in buffer' s')
   pub whole : GoodAnswer a
   pub ready : Ready buffer' s'
+
+-- what is answered of the words of the heap that was made, and how many words then stand in the buffer
+abbrev pub made_answer : Result ℕ Question → Answer
+made_answer (Ok k) = New
+made_answer (Err q) = Refused (number q)
+
+abbrev pub made_words : Result ℕ Question → ℕ
+made_words (Ok k) = k
+made_words (Err q) = 0

@@ -64,10 +64,8 @@ fn step(file: &[u8], buffer: &mut [u64], scratch: &mut [u64], run: &mut Run) -> 
     run.number += 1;
     match stands_at(file, run.at).unwrap_or(Err(Question::Command)) {
         Ok((command, behind)) => {
-            let p = command::perform(buffer, scratch, run.state, command);
             run.at = behind;
-            run.state = p.state;
-            p.answer
+            run.state.perform(buffer, scratch, command)
         }
         Err(_) => {
             run.at = file.len();

@@ -1,5 +1,6 @@
 use native.Mathlib.Omega.{arith}
-use mathlib.Core.Path.{◌≡◌}
+use Rattle.std.proofs.Common.{rules}
+use mathlib.Core.Path.{◌≡◌, refl}
 use Prim.Native.Nat.{◌<◌}
 use lib.ListN.{length}
 use mir.Syntax.{w64}
@@ -14,24 +15,24 @@ use Rattle.command.proofs.load_in.Goals.{After-target_of}
 there : (c : After-target_of) → 0 < length c.args.image.now
 there c = omega (arith, c.if-image-eq0.false)
 
-aim : (c : After-target_of) → target_answer c.target_of.result ≡ target_in (value_cell c.get.result) (of_z w64 c.args.offset)
-aim c = rw (to_z-of_z w64 c.args.offset c.ranges.offset) at c.target_of.ensures
+aim : (c : After-target_of) → target_answer c.target_of.result ≡ target_in (value_cell c.get.result) (of_z w64 c.args.a.offset)
+aim c = rw (to_z-of_z w64 c.args.a.offset (search rules)) at c.target_of.ensures
 
 pub returns-then-image-eq0 : goal.returns-then-image-eq0
 returns-then-image-eq0 c =
-    load-heapless _ _ _ c.requires.held c.requires.register_bound.2 (omega arith) c.refused.ensures
+    load-heapless _ _ _ c.requires.held c.requires.register_bound.2 (omega arith) (refl, refl)
 
 pub read_formed-requires : goal.read_formed-requires
 read_formed-requires c = c.requires.held.formed (there (goal.at.read_formed-requires c).After-target_of)
 
 pub returns-in-Value : goal.returns-in-Value
 returns-in-Value c =
-    load-done _ _ _ c.requires.held c.requires.register_bound.2 (there (goal.at.returns-in-Value c).After-target_of) c.get.result c.get.ensures c.target_of.result (aim (goal.at.returns-in-Value c).After-target_of) c.in-Is.is c.read_formed.result c.read_formed.ensures c.in-Value.is c.loaded.ensures
-
-pub returns-in-Refused-read_formed : goal.returns-in-Refused-read_formed
-returns-in-Refused-read_formed c =
-    load-refused _ _ _ c.requires.held c.requires.register_bound.2 (there (goal.at.returns-in-Refused-read_formed c).After-target_of) c.get.result c.get.ensures c.target_of.result (aim (goal.at.returns-in-Refused-read_formed c).After-target_of) c.in-Is.is c.read_formed.result c.read_formed.ensures c.in-Refused-read_formed.is c.refused-in-Refused-read_formed.ensures
+    load-done _ _ _ c.requires.held c.requires.register_bound.2 (there (goal.at.returns-in-Value c).After-target_of) c.get.result c.get.ensures c.target_of.result (aim (goal.at.returns-in-Value c).After-target_of) c.in-Ok.is c.read_formed.result c.read_formed.ensures c.in-Value.is (refl, c.set.ensures)
 
 pub returns-in-Refused : goal.returns-in-Refused
 returns-in-Refused c =
-    load-nowhere _ _ _ c.requires.held c.requires.register_bound.2 (there (goal.at.returns-in-Refused c).After-target_of) c.get.result c.get.ensures c.target_of.result (aim (goal.at.returns-in-Refused c).After-target_of) c.in-Refused.is c.refused-in-Refused.ensures
+    load-refused _ _ _ c.requires.held c.requires.register_bound.2 (there (goal.at.returns-in-Refused c).After-target_of) c.get.result c.get.ensures c.target_of.result (aim (goal.at.returns-in-Refused c).After-target_of) c.in-Ok.is c.read_formed.result c.read_formed.ensures c.in-Refused.is (refl, refl)
+
+pub returns-in-Err : goal.returns-in-Err
+returns-in-Err c =
+    load-nowhere _ _ _ c.requires.held c.requires.register_bound.2 (there (goal.at.returns-in-Err c).After-target_of) c.get.result c.get.ensures c.target_of.result (aim (goal.at.returns-in-Err c).After-target_of) c.in-Err.is c.number.ensures (refl, refl)

@@ -24,10 +24,10 @@ slice_bounds-fresh-end c = fits c
 pub slice_bounds-fresh-end-2 : goal.slice_bounds-fresh-end-2
 slice_bounds-fresh-end-2 c = sym (length-take-le _ _ (fits (goal.at.slice_bounds-fresh-end-2 c).After-unwrap-words))
 
-pub returns-in-Ok : goal.returns-in-Ok
-returns-in-Ok c =
-    make-done _ _ c.requires (said-yes c.is_bounded.ensures c.if-not-is_bounded.false) c.words.ensures c.unwrap-words.ensures _ _ c.fresh.ensures c.in-Ok.is
+pub returns : goal.returns
+returns c =
+    make-done _ _ c.requires (said-yes c.is_bounded.ensures c.if-not-is_bounded.false) c.words.ensures c.unwrap-words.ensures _ _ c.fresh.ensures c.in_ok-fresh.was
 
-pub returns-in-Err : goal.returns-in-Err
-returns-in-Err c =
-    absurd (make-always _ _ c.requires (said-yes c.is_bounded.ensures c.if-not-is_bounded.false) c.words.ensures c.unwrap-words.ensures _ _ c.fresh.ensures c.in-Err.is)
+pub returns-in_err-fresh : goal.returns-in_err-fresh
+returns-in_err-fresh c =
+    absurd (make-always _ _ c.requires (said-yes c.is_bounded.ensures c.if-not-is_bounded.false) c.words.ensures c.unwrap-words.ensures _ _ c.fresh.ensures c.in_err-fresh.was)

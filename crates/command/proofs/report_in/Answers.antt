@@ -1,17 +1,18 @@
 use native.Mathlib.Omega.{arith}
 use Rattle.command.proofs.Reporting.{report-heapless, report-refused, report-acts}
+use mathlib.Core.Path.{refl}
 use Rattle.command.proofs.report_in.Goals as goal
 
 pub returns-then-image-eq0 : goal.returns-then-image-eq0
-returns-then-image-eq0 c = report-heapless c.requires.held c.requires.good c.if-image-eq0.true c.refused.ensures
+returns-then-image-eq0 c r g = report-heapless c.requires.held g c.if-image-eq0.true (refl, refl)
 
 pub report_lent_formed-requires : goal.report_lent_formed-requires
 report_lent_formed-requires c = c.requires.held.formed (omega (arith, c.if-image-eq0.false))
 
 pub returns-in-Taken : goal.returns-in-Taken
-returns-in-Taken c =
-    report-acts c.requires.held (omega (arith, c.if-image-eq0.false)) c.requires.good _ _ c.report_lent_formed.ensures c.in-Taken.is
+returns-in-Taken c r g =
+    report-acts c.requires.held (omega (arith, c.if-image-eq0.false)) g _ _ c.report_lent_formed.ensures c.in-Taken.is
 
 pub returns-in-Refused : goal.returns-in-Refused
-returns-in-Refused c =
-    report-refused c.requires.held (omega (arith, c.if-image-eq0.false)) c.requires.good _ _ c.report_lent_formed.ensures c.in-Refused.is c.refused-in-Refused.ensures
+returns-in-Refused c r g =
+    report-refused c.requires.held (omega (arith, c.if-image-eq0.false)) g _ _ c.report_lent_formed.ensures c.in-Refused.is (refl, refl)

@@ -1,9 +1,9 @@
-use mathlib.Core.Path.{sym, ◌∙◌}
+use mathlib.Core.Path.{refl, sym, ◌∙◌}
 use Rattle.command.proofs.Stepping.{set-refused, set-done}
 use Rattle.command.proofs.set_register.Goals as goal
 
 pub returns-then-not-is_valid : goal.returns-then-not-is_valid
-returns-then-not-is_valid c w h = set-refused h c.requires.1 (sym c.is_valid.ensures ∙ c.if-not-is_valid.true) c.refused.ensures
+returns-then-not-is_valid c w h = set-refused h c.requires.1 (sym c.is_valid.ensures ∙ c.if-not-is_valid.true) (refl, refl)
 
 pub value_of-requires : goal.value_of-requires
 value_of-requires c = sym c.is_valid.ensures ∙ c.if-not-is_valid.false

@@ -1,5 +1,6 @@
 use native.Mathlib.Omega.{arith}
-use mathlib.Core.Path.{◌≡◌}
+use Rattle.std.proofs.Common.{rules}
+use mathlib.Core.Path.{◌≡◌, refl}
 use Prim.Native.Nat.{◌<◌}
 use lib.ListN.{length}
 use mir.Syntax.{w64}
@@ -14,12 +15,12 @@ use Rattle.command.proofs.store_in.Goals.{After-target_of}
 there : (c : After-target_of) → 0 < length c.args.image.now
 there c = omega (arith, c.if-image-eq0.false)
 
-aim : (c : After-target_of) → target_answer c.target_of.result ≡ target_in (value_cell c.get-2.result) (of_z w64 c.args.offset)
-aim c = rw (to_z-of_z w64 c.args.offset c.ranges.offset) at c.target_of.ensures
+aim : (c : After-target_of) → target_answer c.target_of.result ≡ target_in (value_cell c.get-2.result) (of_z w64 c.args.a.offset)
+aim c = rw (to_z-of_z w64 c.args.a.offset (search rules)) at c.target_of.ensures
 
 pub returns-then-image-eq0 : goal.returns-then-image-eq0
 returns-then-image-eq0 c =
-    store-heapless _ _ _ c.requires.held c.requires.register_bound.2 (omega arith) c.refused.ensures
+    store-heapless _ _ _ c.requires.held c.requires.register_bound.2 (omega arith) (refl, refl)
 
 pub write_formed-requires : goal.write_formed-requires
 write_formed-requires c = c.requires.held.formed (there (goal.at.write_formed-requires c).After-target_of)
@@ -27,14 +28,14 @@ write_formed-requires c = c.requires.held.formed (there (goal.at.write_formed-re
 pub returns-in-Done : goal.returns-in-Done
 returns-in-Done c =
     let u = c.get in
-    store-done _ _ _ c.requires.held c.requires.register_bound.2 (there (goal.at.returns-in-Done c).After-target_of) c.get-2.result c.get-2.ensures c.target_of.result (aim (goal.at.returns-in-Done c).After-target_of) u.result u.ensures c.in-Is.is c.encode-w.ensures c.write_formed.result _ c.write_formed.ensures c.in-Done.is
-
-pub returns-in-Refused-write_formed : goal.returns-in-Refused-write_formed
-returns-in-Refused-write_formed c =
-    let u = c.get in
-    store-refused _ _ _ c.requires.held c.requires.register_bound.2 (there (goal.at.returns-in-Refused-write_formed c).After-target_of) c.get-2.result c.get-2.ensures c.target_of.result (aim (goal.at.returns-in-Refused-write_formed c).After-target_of) u.result u.ensures c.in-Is.is c.encode-w.ensures c.write_formed.result _ c.write_formed.ensures c.in-Refused-write_formed.is c.refused-in-Refused-write_formed.ensures
+    store-done _ _ _ c.requires.held c.requires.register_bound.2 (there (goal.at.returns-in-Done c).After-target_of) c.get-2.result c.get-2.ensures c.target_of.result (aim (goal.at.returns-in-Done c).After-target_of) u.result u.ensures c.in-Ok.is c.encode-w.ensures c.write_formed.result _ c.write_formed.ensures c.in-Done.is
 
 pub returns-in-Refused : goal.returns-in-Refused
 returns-in-Refused c =
     let u = c.get in
-    store-nowhere _ _ _ c.requires.held c.requires.register_bound.2 (there (goal.at.returns-in-Refused c).After-target_of) c.get-2.result c.get-2.ensures c.target_of.result (aim (goal.at.returns-in-Refused c).After-target_of) u.result u.ensures c.in-Refused.is c.refused-in-Refused.ensures
+    store-refused _ _ _ c.requires.held c.requires.register_bound.2 (there (goal.at.returns-in-Refused c).After-target_of) c.get-2.result c.get-2.ensures c.target_of.result (aim (goal.at.returns-in-Refused c).After-target_of) u.result u.ensures c.in-Ok.is c.encode-w.ensures c.write_formed.result _ c.write_formed.ensures c.in-Refused.is (refl, refl)
+
+pub returns-in-Err : goal.returns-in-Err
+returns-in-Err c =
+    let u = c.get in
+    store-nowhere _ _ _ c.requires.held c.requires.register_bound.2 (there (goal.at.returns-in-Err c).After-target_of) c.get-2.result c.get-2.ensures c.target_of.result (aim (goal.at.returns-in-Err c).After-target_of) u.result u.ensures c.in-Err.is c.number.ensures (refl, refl)

@@ -10,16 +10,16 @@ use Rattle.listing.proofs.step.Goals.{After-unwrap_or}
 stood_there : (c : After-unwrap_or) → placed_answer c.unwrap_or.result ≡ stands_at c.args.file.now c.args.run.now.at
 stood_there c = rw c.unwrap_or.ensures (never_none _ _ c.requires.at_in_bounds _ c.stands_at.ensures)
 
-pub perform-p-requires : goal.perform-p-requires
-perform-p-requires c = record {
+pub perform-requires : goal.perform-requires
+perform-requires c = record {
   ready = c.requires.going.ready;
   program_words_in_bounds = (search rules, search rules);
-  command_value = registers-below-16 _ _ c.requires.at_in_bounds (rw c.in-Ok.is at (stood_there (goal.at.perform-p-requires c).After-unwrap_or));
+  command_value = registers-below-16 _ _ c.requires.at_in_bounds (rw c.in-Ok.is at (stood_there (goal.at.perform-requires c).After-unwrap_or));
 }
 
 pub returns-in-Ok : goal.returns-in-Ok
 returns-in-Ok c =
-    step-command c.requires.going c.requires.at_in_bounds (rw c.in-Ok.is at (stood_there (goal.at.returns-in-Ok c).After-unwrap_or)) c.perform-p.ensures
+    step-command c.requires.going c.requires.at_in_bounds (rw c.in-Ok.is at (stood_there (goal.at.returns-in-Ok c).After-unwrap_or)) c.perform.ensures
 
 pub returns-in-Err : goal.returns-in-Err
 returns-in-Err c =
