@@ -3,9 +3,6 @@ use Rattle.slots.proofs.Swapped.{swapped}
 use Rattle.slots.proofs.Counts.{counts}
 use Rattle.slots.proofs.swap_old.Goals as goal
 
-pub slice_bounds-in_use-end-2 : goal.slice_bounds-in_use-end-2
-slice_bounds-in_use-end-2 c = search (swapped, counts, rules)
-
 pub in_use-used-requires : goal.in_use-used-requires
 in_use-used-requires c = search (swapped, counts, rules)
 

@@ -3,9 +3,6 @@ use Rattle.slots.proofs.Writes.{writes}
 use Rattle.slots.proofs.Counts.{counts}
 use Rattle.slots.proofs.write_old.Goals as goal
 
-pub slice_bounds-sum_first-end-2 : goal.slice_bounds-sum_first-end-2
-slice_bounds-sum_first-end-2 c = search (writes, counts, rules)
-
 pub sum_first-requires : goal.sum_first-requires
 sum_first-requires c = search (writes, counts, rules)
 
