@@ -38,11 +38,14 @@ fn members(image: &[u64], roots: &[u64], masks: &[u64], list: &mut [u64]) -> usi
     ensures { Listed (cells_in roots.now) masks.now image.now result list.new }
 {
     let l = places::layout_of(image);
-    let from = l.lens;
-    let end = l.slots;
-    let at = l.young;
-    let behind = l.old;
-    trace::list_members(0, roots, &image[from..end], &image[at..behind], masks, list)
+    trace::list_members(
+        0,
+        roots,
+        l.young_lengths(image),
+        l.young_cells(image),
+        masks,
+        list,
+    )
 }
 
 // Question 6 of the first count entries.
@@ -52,9 +55,7 @@ fn all_allocated(image: &[u64], list: &[u64], count: usize) -> bool
     ensures { Reads (λ h. all_allocated h.young (members count list.now)) image.now result }
 {
     let l = places::layout_of(image);
-    let from = l.lens;
-    let end = l.slots;
-    survivors::all_allocated(&image[from..end], list, count)
+    survivors::all_allocated(l.young_lengths(image), &list[..3 * count])
 }
 
 // A collection. The survivors stand in the lent words, sorted.

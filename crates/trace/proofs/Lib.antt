@@ -4,3 +4,4 @@ pub mod Closure
 pub mod Places
 pub mod Entering
 pub mod Heaps
+pub mod Chunks

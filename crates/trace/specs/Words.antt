@@ -1,5 +1,5 @@
 -- The members of a collection in words, three to an entry: heap, base, offset.
-use Rattle.std.specs.Prelude.{List, [], ◌∷◌, ℕ, zero, suc, ◌+◌, ◌*◌, ◌≤◌, length, get_or, set}
+use Rattle.std.specs.Prelude.{List, [], ◌∷◌, ℕ, zero, suc, ◌+◌, ◌*◌, ◌/◌, ◌≤◌, length, get_or, set}
 use Rattle.model.specs.Records.{Ptr}
 
 -- f i, f (i + 1), .., n of them
@@ -17,6 +17,10 @@ ptr_at w i = pointer (get_or w (3 * i) 0) (get_or w (3 * i + 1) 0) (get_or w (3 
 -- the first n entries
 unfoldable pub members : ℕ → List ℕ → List Ptr
 members n w = tab (ptr_at w) 0 n
+
+-- all entries, where the words hold nothing else
+abbrev pub listed : List ℕ → List Ptr
+listed w = members (length w / 3) w
 
 -- p stored as entry n
 abbrev pub stored : List ℕ → ℕ → Ptr → List ℕ

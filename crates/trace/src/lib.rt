@@ -16,34 +16,15 @@ ghost use Rattle.trace.specs.Places.{root_at, own_at, base_at};
 ghost use Rattle.trace.specs.Leads.{begins_at, leads_to, Inside};
 ghost use Rattle.trace.specs.Traces.{Within, most_members, Traced};
 
-// Is entry i of the list (heap, base, offset)? Entries differ in their bases mostly, so these come first.
-fn is_at(list: &[u64], i: usize, heap: u64, base: u64, offset: u64) -> bool
-    requires { 3 * i + 2 < length list.now }
-    ensures { result ≡ same_ptr (pointer heap base offset) (ptr_at list.now i) }
-{
-    let at = 3 * i;
-    if base != list[at + 1] {
-        return false;
-    }
-    if offset != list[at + 2] {
-        return false;
-    }
-    heap == list[at]
-}
-
-// Is (heap, base, offset) among the first count entries?
+// Is (heap, base, offset) among the first count entries? Entries differ in their bases mostly, so these come first.
 pub fn find(list: &[u64], count: usize, heap: u64, base: u64, offset: u64) -> bool
     requires { 3 * count ≤ length list.now }
     ensures { result ≡ mem same_ptr (pointer heap base offset) (members count list.now) }
 {
-    let mut i = 0;
-    while i < count {
-        if is_at(list, i, heap, base, offset) {
-            return true;
-        }
-        i += 1;
-    }
-    false
+    let (entries, _) = list[..3 * count].as_chunks::<3>();
+    entries
+        .iter()
+        .any(|e| base == e[1] && offset == e[2] && heap == e[0])
 }
 
 // Stores (heap, base, offset) as entry n.

@@ -1,4 +1,5 @@
 use Rattle.layout.proofs.Tail.{image-says-sized}
+use Rattle.trace.proofs.Chunks.{listed-cut}
 use Rattle.nursery.proofs.Parts.{allocated-read}
 use Rattle.nursery.proofs.all_allocated.Goals as goal
 
@@ -6,4 +7,5 @@ pub layout_of-l-requires : goal.layout_of-l-requires
 layout_of-l-requires c = image-says-sized c.requires.image
 
 pub returns : goal.returns
-returns c = allocated-read c.layout_of-l.ensures _ c.all_allocated.ensures
+returns c =
+    allocated-read c.layout_of-l.ensures _ (rw (c.young_lengths.ensures, listed-cut c.args.count c.args.list.now c.requires.count_in_bounds) at c.all_allocated.ensures)

@@ -1,41 +1,43 @@
-use mathlib.Core.Path.{◌≡◌, ◌∙◌}
-use mathlib.Core.Bool.{Bool, true, false}
-use mathlib.Core.List.{List}
-use Prim.Native.Nat.{ℕ, ◌+◌, ◌≤◌, ◌<◌}
-use native.Mathlib.Nat.{sub-zero}
-use native.Mathlib.Omega.{arith}
+use Rattle.std.proofs.Common.{◌≡◌, ℕ, Bool, true, false, ◌&&◌, ◌||◌, eqb, List, [], ◌∷◌, get_or, map, refl, ap, ◌∙◌, rules, tests}
+use Rattle.std.specs.List.{list_any}
+use Rattle.std.specs.Simd.{first_chunks}
+use Rattle.std.proofs.lemmas.Iterator.{YieldsList-from_slice}
+use Rattle.std.proofs.lemmas.Iterator.Search.{any_from_yields_List}
 use Rattle.model.specs.Reach.{mem}
 use Rattle.model.specs.Records.{Ptr, same_ptr}
-use Rattle.trace.specs.Words.{ptr_at, members}
-use Rattle.trace.proofs.Entries.{tab-cons, tab-none}
-use Rattle.trace.proofs.find.Invariants.{Looked}
+use Rattle.trace.specs.Words.{pointer}
+use Rattle.trace.proofs.Chunks.{entry_of, entries-are, front}
 use Rattle.trace.proofs.find.Goals as goal
 
-begin : (w : List ℕ) (n : ℕ) (p : Ptr) → Looked w n p 0
-unfolding members
-begin w n p = record { within = omega arith; is = rw sub-zero }
+-- a chunk's test, the base first
+abbrev same_entry : ℕ → ℕ → ℕ → List ℕ → Bool
+same_entry h b o e = eqb b (get_or e 1 0) && eqb o (get_or e 2 0) && eqb h (get_or e 0 0)
 
-module _ {w : List ℕ} {n : ℕ} {p : Ptr} {i : ℕ} (v : Looked w n p i) where
-  hit : {r : Bool} → i < n → r ≡ same_ptr p (ptr_at w i) → r ≡ true → true ≡ mem same_ptr p (members n w)
-  unfolding mem
-  hit h e q = rw (v.is, tab-cons (ptr_at w) i n h, ← e, q)
+base_first : (x y z : Bool) → (x && y && z) ≡ (z && x && y)
+base_first true true true = refl
+base_first true true false = refl
+base_first true false true = refl
+base_first true false false = refl
+base_first false y true = refl
+base_first false y false = refl
 
-  turn : {r : Bool} → i < n → r ≡ same_ptr p (ptr_at w i) → r ≡ false → Looked w n p (i + 1)
-  unfolding mem
-  turn h e q = record { within = omega arith; is = v.is ∙ rw (tab-cons (ptr_at w) i n h, ← e, q) }
+same_entry-is : (h b o : ℕ) (e : List ℕ) → same_entry h b o e ≡ same_ptr (pointer h b o) (entry_of e)
+unfolding same_ptr
+same_entry-is h b o e = base_first (eqb b (get_or e 1 0)) (eqb o (get_or e 2 0)) (eqb h (get_or e 0 0))
 
-  none : n ≤ i → false ≡ mem same_ptr p (members n w)
-  unfolding mem
-  none h = rw (v.is, tab-none (ptr_at w) i n h)
-
-pub loop-i-init : goal.loop-i-init
-loop-i-init c = search begin
-
-pub returns-then-is_at : goal.returns-then-is_at
-returns-then-is_at c = search hit
-
-pub loop-i-preserved : goal.loop-i-preserved
-loop-i-preserved c = search turn
+found : (p : Ptr) (test : List ℕ → Bool) → ((e : List ℕ) → test e ≡ same_ptr p (entry_of e)) → (es : List (List ℕ)) → list_any test es ≡ mem same_ptr p (map entry_of es)
+unfolding mem
+found p test s [] = refl
+found p test s (e ∷ es) = λ j. s e j || found p test s es j
 
 pub returns : goal.returns
-returns c = search none
+returns c =
+    let h = c.args.heap in
+    let b = c.args.base in
+    let o = c.args.offset in
+    let n = c.args.count in
+    let es : c.as_chunks.result.0.now ≡ first_chunks 3 n c.args.list.now =
+    c.as_chunks.ensures.front ∙ front n c.args.list.now c.requires in
+    any_from_yields_List (same_entry h b o) _ _ _ c.any.ensures.ran (YieldsList-from_slice (first_chunks 3 n c.args.list.now) (c.iter.ensures.rest ∙ es)) (λ x r q k. search (rules, tests))
+    ∙ found (pointer h b o) (same_entry h b o) (same_entry-is h b o) (first_chunks 3 n c.args.list.now)
+    ∙ ap (mem same_ptr (pointer h b o)) (entries-are n c.args.list.now)
