@@ -18,15 +18,13 @@ use Rattle.theorems.specs.Does.{with_young, with_old}
 use Rattle.theorems.proofs.Barrier.{low_byte}
 use Rattle.question.specs.Question.{number, answer}
 use Rattle.question.specs.declared.Question.{Question}
-use Rattle.barrier.specs.Counts.{barrier_of}
+use Rattle.barrier.specs.Counts.{barrier_of, step_of}
 use Rattle.barrier.specs.declared.WriteBarrier.{WriteBarrier}
 use Rattle.barrier.proofs.Steps.{Steps, steps-in, steps-out}
 use Rattle.fields.specs.Fields.{Reads, Turns, with_bar, with_old_bar, bar_of, on_bar, with_count}
 use Rattle.fields.proofs.Parts.{decoded}
 use Rattle.fields.proofs.Counts.{bar-fit}
-use Rattle.access.specs.Counting.{gone_if, crosses, place_of, count_from, count_of, storing, recounted, on_counts, Leaves, done, kept}
-use Rattle.access.specs.declared.Stored.{Stored}
-use Rattle.access.specs.declared.Stored.TheVariants.{Done, Refused}
+use Rattle.access.specs.Counting.{gone_if, crosses, place_of, count_from, count_of, recounted, on_counts, Leaves, done, kept}
 use Rattle.access.proofs.Crossing.{bar-same}
 
 -- a heap with another barrier
@@ -114,7 +112,12 @@ counts-in own = counts-by (steps-in own) up_from
 pub counts-out : (own : ℕ) → Counts own (count_out own)
 counts-out own = counts-by (steps-out own) down-from
 
-pub leaves-as : {m n : Res Heap} {w v : List ℕ} {r : Stored} → m ≡ n → Leaves m w r v → Leaves n w r v
+pub counts-of : (into : Bool) (own : ℕ) → Counts own (step_of into own)
+unfolding step_of
+counts-of true = counts-in
+counts-of false = counts-out
+
+pub leaves-as : {m n : Res Heap} {w v : List ℕ} {r : Result (Unit {0}) Question} → m ≡ n → Leaves m w r v → Leaves n w r v
 leaves-as {w = w} {v = v} {r = r} e = subst (λ (x : Res Heap). Leaves x w r v) e
 
 -- the image after a step whose count was stored
@@ -125,16 +128,6 @@ Stores own c d w v = Turns (λ h. on_bar own (count_of own c d (bar_of own h)) h
 step-image : {own : ℕ} {f : Cell → Barrier → Res Barrier} → Counts own f → {w v : List ℕ} {h : Heap} → Image w h → (c : Cell) {d : Barrier} → f c (bar_of own h) ≡ ok d → Stores own c d w v → Image v (on_bar own d h)
 step-image {own} k {h = h} i c {d} e t = rw (k.from c (bar_of own h) d (bar-fit i own) e) at (t.turns h i)
 
--- what a step came to, stored
-module _ {w : List ℕ} (own : ℕ) (c : Cell) (r : Result WriteBarrier Question) where
-  pub step_kept : (q : Question) → r ≡ Err q → Leaves (storing own c (answer barrier_of r) (decode w)) w (Refused (number q)) w
-  unfolding storing
-  step_kept q e = rw e kept
-
-  pub step-stored : Image w (decode w) → (d : WriteBarrier) → r ≡ Ok d → {v : List ℕ} → Stores own c (barrier_of d) w v → Leaves (storing own c (answer barrier_of r) (decode w)) w Done v
-  unfolding storing
-  step-stored i d e t = rw e (done (t.turns (decode w) i))
-
 module _ {w : List ℕ} (i : Image w (decode w)) (own : ℕ) {b : Barrier} (r : Reads (λ h. bar_of own h) w b) where
   was : bar_of own (decode w) ≡ b
   was = r.reads (decode w) i
@@ -143,26 +136,26 @@ module _ {w : List ℕ} (i : Image w (decode w)) (own : ℕ) {b : Barrier} (r : 
   fit = rw was at (bar-fit i own)
 
   -- one step
-  pub alone : {f : Cell → Barrier → Res Barrier} → Counts own f → (c : Cell) {m : Res Barrier} → m ≡ f c b → {r : Stored} {v : List ℕ}
-      → Leaves (storing own c m (decode w)) w r v → Leaves (on_counts own (f c) (decode w)) w r v
-  unfolding storing on_counts
-  alone {f} k c e l = leaves-as (rw (e, was) (go (f c b) refl)) l
-    where
-      go : (m : Res Barrier) → f c b ≡ m → (m >>= λ d. ok (on_bar own (count_of own c d b) (decode w))) ≡ (m >>= λ d. ok (on_bar own d (decode w)))
-      go (ok d) q = rw (k.from c b d fit q)
-      go (refuse q) e = refl
+  module _ (f : Cell → Barrier → Res Barrier) (c : Cell) (x : Result WriteBarrier Question) (e : answer barrier_of x ≡ f c b) where
+    pub alone-refused : (q : Question) → x ≡ Err q → Leaves (on_counts own (f c) (decode w)) w (Err q) w
+    unfolding on_counts
+    alone-refused q k = rw (was, step-refused x e q k) kept
+
+    pub alone-stored : Counts own f → (d : WriteBarrier) → x ≡ Ok d → {v : List ℕ} → Stores own c (barrier_of d) w v → Leaves (on_counts own (f c) (decode w)) w (Ok tt) v
+    unfolding on_counts
+    alone-stored s d k t = rw (was, step-done x e d k) (done (step-image s i c (rw was (step-done x e d k)) t))
 
   -- the old cell out, then the new one in
   module _ (old new : Cell) where
     abbrev both : Res Heap
     both = on_counts own (recounted own true old new) (decode w)
 
-    pub out-refused : (q : ℕ) → count_out own old b ≡ refuse q → Leaves both w (Refused q) w
+    pub out-refused : (q : Question) → count_out own old b ≡ refuse (number q) → Leaves both w (Err q) w
     unfolding on_counts recounted
     out-refused q o = rw (was, o) kept
 
     module _ {d : Barrier} (o : count_out own old b ≡ ok d) where
-      pub in-refused : (q : ℕ) → count_in own new d ≡ refuse q → Leaves both w (Refused q) w
+      pub in-refused : (q : Question) → count_in own new d ≡ refuse (number q) → Leaves both w (Err q) w
       unfolding on_counts recounted
       in-refused q n = rw (was, o, n) kept
 
@@ -173,7 +166,7 @@ module _ {w : List ℕ} (i : Image w (decode w)) (own : ℕ) {b : Barrier} (r : 
         pub out-stored : Image u (decode u)
         out-stored = decoded out-image
 
-        pub both_stored : {v : List ℕ} {e : Barrier} → count_in own new d ≡ ok e → Stores own new e u v → Leaves both w Done v
+        pub both_stored : {v : List ℕ} {e : Barrier} → count_in own new d ≡ ok e → Stores own new e u v → Leaves both w (Ok tt) v
         unfolding on_counts recounted
         both_stored {e = e} n s =
             rw (was, o, n) (done (rw (bar-over own e d (decode w)) at (step-image (counts-in own) out-image new (rw (bar-on own d (decode w)) n) s)))
@@ -193,6 +186,6 @@ module _ (own : ℕ) (old new : Cell) (h : Heap) where
       go (ok x) = rw ((counts-in own).apart new x e)
       go (refuse q) = refl
 
-pub neither : {w : List ℕ} → Image w (decode w) → (own : ℕ) (old new : Cell) → crosses own old ≡ false → crosses own new ≡ false → Leaves (on_counts own (recounted own true old new) (decode w)) w Done w
+pub neither : {w : List ℕ} → Image w (decode w) → (own : ℕ) (old new : Cell) → crosses own old ≡ false → crosses own new ≡ false → Leaves (on_counts own (recounted own true old new) (decode w)) w (Ok tt) w
 unfolding on_counts recounted
 neither {w} i own old new e f = rw ((counts-out own).apart old (bar_of own (decode w)) e, (counts-in own).apart new (bar_of own (decode w)) f, bar-same own (decode w)) (done i)

@@ -10,6 +10,7 @@ use lib.ListN.{length, get_or, set}
 use mir.Syntax.{w64}
 use mir.Val.{of_z}
 use borrow.Author.Tests.{ltb-true, lt-ltb, eqb-true}
+use Rattle.std.specs.Prelude.{Result, Ok, Err}
 use Rattle.model.specs.Res.{Res, ok, refuse, ◌>>=◌, ask}
 use Rattle.model.specs.Records.{Ptr, Cell, blank, valid_words, whole_cells}
 use Rattle.model.specs.Barrier.{Barrier, count_in, count_out}
@@ -21,37 +22,39 @@ use Rattle.theorems.specs.Fit.{Image}
 use Rattle.theorems.specs.Does.{with_young, with_old}
 use Rattle.theorems.proofs.Image.{image-decode}
 use Rattle.theorems.proofs.Lists.{and_left, and_right}
+use Rattle.question.specs.Question.{number}
+use Rattle.question.specs.declared.Question.{Question}
+use Rattle.question.specs.declared.Question.TheVariants.{Access}
 use Rattle.value.specs.declared.Pointer.{Pointer}
 use Rattle.trace.specs.Words.{pointer}
 use Rattle.slots.specs.Slots.{written}
 use Rattle.layout.specs.Elder.{with_slots, Turned}
-use Rattle.fields.specs.Fields.{Turns, on_young, on_old, with_bar, with_old_bar, with_cell, cell_in}
+use Rattle.fields.specs.Fields.{Turns, on_young, on_old, with_bar, with_old_bar, with_cell, bar_of, on_bar, cell_in}
+use Rattle.image.specs.Answers.{made_outcome}
 use Rattle.access.specs.Access.{pointer_of, stored_outcome}
-use Rattle.access.specs.Counting.{out_if, recounted, count_young, count_old, store_young, store_old, Leaves, done, kept}
-use Rattle.access.specs.declared.Stored.{Stored}
-use Rattle.access.specs.declared.Stored.TheVariants.{Done, Refused}
+use Rattle.access.specs.Counting.{out_if, recounted, on_counts, store_young, store_old, Leaves, done, kept}
 use Rattle.access.proofs.Answers.{pointer_is}
 
 -- what was left, by the answer
 
-done-of : {m : Res Heap} {w v : List ℕ} {r : Stored} → Leaves m w r v → r ≡ Done → (h : Heap) × (m ≡ ok h) × Image v h
+done-of : {m : Res Heap} {w v : List ℕ} {r : Result (Unit {0}) Question} → Leaves m w r v → r ≡ Ok tt → (h : Heap) × (m ≡ ok h) × Image v h
 done-of (done {h = h} i) e = (h, refl, i)
 done-of kept e = let z : ◌≡◌ {A = ℕ} 0 1 = cc in absurd (omega arith)
 
-refused-of : {m : Res Heap} {w v : List ℕ} {r : Stored} {q : ℕ} → Leaves m w r v → r ≡ Refused q → (m ≡ refuse q) × (v ≡ w)
+refused-of : {m : Res Heap} {w v : List ℕ} {r : Result (Unit {0}) Question} {q : Question} → Leaves m w r v → r ≡ Err q → (m ≡ refuse (number q)) × (v ≡ w)
 refused-of {q = q} (done i) e = let z : ◌≡◌ {A = ℕ} 0 1 = cc in absurd (omega arith)
-refused-of {q = q} (kept {q = p}) e = let z : p ≡ q = cc in (ap refuse z, refl)
+refused-of {q = q} (kept {q = p}) e = let z : p ≡ q = cc in (ap (λ (x : Question). refuse (number x)) z, refl)
 
-pub leaves-left : {m : Res Heap} {w v : List ℕ} {r : Stored} → Leaves m w r v → left w m ≡ stored_outcome r v
-unfolding left stored_outcome
+pub leaves-left : {m : Res Heap} {w v : List ℕ} {r : Result (Unit {0}) Question} → Leaves m w r v → left w m ≡ stored_outcome r v
+unfolding left made_outcome
 leaves-left (done i) = λ k. record { answer = ok []; image = sym i.is k; roots = [] }
 leaves-left kept = refl
 
-pub left-refused : {m : Res Heap} {w v : List ℕ} (q : ℕ) → m ≡ refuse q → v ≡ w → Leaves m w (Refused q) v
+pub left-refused : {m : Res Heap} {w v : List ℕ} (q : Question) → m ≡ refuse (number q) → v ≡ w → Leaves m w (Err q) v
 left-refused q e f = rw (e, f) kept
 
 -- the barrier that was counted
-some-barrier : (f : Barrier → Heap) (m : Res Barrier) {w v : List ℕ} {r : Stored} → Leaves (m >>= λ b. ok (f b)) w r v → r ≡ Done → (b : Barrier) × (m ≡ ok b) × Image v (f b)
+some-barrier : (f : Barrier → Heap) (m : Res Barrier) {w v : List ℕ} {r : Result (Unit {0}) Question} → Leaves (m >>= λ b. ok (f b)) w r v → r ≡ Ok tt → (b : Barrier) × (m ≡ ok b) × Image v (f b)
 some-barrier f (ok b) l e = let (h, p, i) = done-of l e in let q : h ≡ f b = cc in (b, refl, rw (← q) i)
 some-barrier f (refuse q) l e = let (h, p, i) = done-of l e in let z : ◌≡◌ {A = ℕ} 0 1 = cc in absurd (omega arith)
 
@@ -88,9 +91,9 @@ module _ (w : List ℕ) (e : value_good w ≡ true) where
 
 -- in the elder
 
-module _ {w : List ℕ} (b o : ℕ) {old new : Cell} (cell : List ℕ) {r : Stored} {v : List ℕ}
+module _ {w : List ℕ} (b o : ℕ) {old new : Cell} (cell : List ℕ) {r : Result (Unit {0}) Question} {v : List ℕ}
     (eo : old ≡ get_or (get_or (decode w).old.slots b []) o blank) (en : new ≡ cell_in cell) (g : value_good cell ≡ true)
-    (l : Leaves (count_old old new (decode w)) w r v) where
+    (l : Leaves (on_counts 1 (recounted 1 true old new) (decode w)) w r v) where
   abbrev h : Heap
   h = decode w
 
@@ -101,25 +104,25 @@ module _ {w : List ℕ} (b o : ℕ) {old new : Cell} (cell : List ℕ) {r : Stor
   unfolding store_old write_old recounted
   store_is = rw (eo, en) (chained 1 (cell_in cell) _ _ (count_out 1 (get_or s o blank) h.old.bar))
 
-  counted-old : r ≡ Done → (x : Barrier) × (recounted 1 true old new h.old.bar ≡ ok x) × Image v (on_old (with_old_bar x) h)
-  unfolding count_old
+  counted-old : r ≡ Ok tt → (x : Barrier) × (recounted 1 true old new h.old.bar ≡ ok x) × Image v (on_old (with_old_bar x) h)
+  unfolding on_counts bar_of on_bar
   counted-old e = some-barrier (λ x. on_old (with_old_bar x) h) (recounted 1 true old new h.old.bar) l e
 
-  pub old-there : r ≡ Done → o < length s → Image v (decode v) × ((o < length (get_or (decode v).old.slots b [])) × ((length cell ≡ 3) × (whole_cells cell ≡ true)))
+  pub old-there : r ≡ Ok tt → o < length s → Image v (decode v) × ((o < length (get_or (decode v).old.slots b [])) × ((length cell ≡ 3) × (whole_cells cell ≡ true)))
   unfolding with_old_bar with_old value_good
   old-there e u = let (x, m, i) = counted-old e in rw (image-decode i) (i, (u, (value-length cell g, and_left (whole_cells cell) (eqb (length cell) 3) g)))
 
-  pub old-stored : {u : List ℕ} → r ≡ Done → Turned (written b o cell) v u → Leaves (store_old b s o (cell_in cell) h) w Done u
+  pub old-stored : {u : List ℕ} → r ≡ Ok tt → Turned (written b o cell) v u → Leaves (store_old b s o (cell_in cell) h) w (Ok tt) u
   unfolding with_old_bar with_old with_slots
   old-stored e t =
       let (x, m, i) = counted-old e in
       rw (store_is, m) (done (t.turned _ i))
 
-  pub old-refused : (q : ℕ) → r ≡ Refused q → Leaves (store_old b s o (cell_in cell) h) w (Refused q) v
-  unfolding count_old
+  pub old-refused : (q : Question) → r ≡ Err q → Leaves (store_old b s o (cell_in cell) h) w (Err q) v
+  unfolding on_counts bar_of on_bar
   old-refused q e =
       let (m, k) = refused-of l e in
-      left-refused q (store_is ∙ no-barrier _ _ (recounted 1 true old new h.old.bar) q m) k
+      left-refused q (store_is ∙ no-barrier _ _ (recounted 1 true old new h.old.bar) (number q) m) k
 
 -- in the nursery
 
@@ -131,9 +134,9 @@ out-is y i = go (ltb i y.cursor)
     go true = refl
     go false = refl
 
-module _ {w : List ℕ} (i : ℕ) {out : Bool} {old new : Cell} (cell : List ℕ) {r : Stored} {v : List ℕ}
+module _ {w : List ℕ} (i : ℕ) {out : Bool} {old new : Cell} (cell : List ℕ) {r : Result (Unit {0}) Question} {v : List ℕ}
     (et : out ≡ ltb i (decode w).young.cursor) (eo : old ≡ get_or (decode w).young.cells i blank) (en : new ≡ cell_in cell) (g : value_good cell ≡ true)
-    (l : Leaves (count_young out old new (decode w)) w r v) where
+    (l : Leaves (on_counts 0 (recounted 0 out old new) (decode w)) w r v) where
   abbrev hy : Heap
   hy = decode w
 
@@ -141,23 +144,23 @@ module _ {w : List ℕ} (i : ℕ) {out : Bool} {old new : Cell} (cell : List ℕ
   unfolding store_young write_young recounted with_cell with_bar
   young-is = rw (et, eo, en, out-is hy.young i) (chained 0 (cell_in cell) _ _ (out_if (ltb i hy.young.cursor) 0 (get_or hy.young.cells i blank) hy.young.bar))
 
-  counted-young : r ≡ Done → (x : Barrier) × (recounted 0 out old new hy.young.bar ≡ ok x) × Image v (on_young (with_bar x) hy)
-  unfolding count_young
+  counted-young : r ≡ Ok tt → (x : Barrier) × (recounted 0 out old new hy.young.bar ≡ ok x) × Image v (on_young (with_bar x) hy)
+  unfolding on_counts bar_of on_bar
   counted-young e = some-barrier (λ x. on_young (with_bar x) hy) (recounted 0 out old new hy.young.bar) l e
 
-  pub young-there : r ≡ Done → i < hy.size.n → Image v (decode v) × ((i < (decode v).size.n) × ((length cell ≡ 3) × (whole_cells cell ≡ true)))
+  pub young-there : r ≡ Ok tt → i < hy.size.n → Image v (decode v) × ((i < (decode v).size.n) × ((length cell ≡ 3) × (whole_cells cell ≡ true)))
   unfolding with_young value_good
   young-there e u = let (x, m, k) = counted-young e in rw (image-decode k) (k, (u, (value-length cell g, and_left (whole_cells cell) (eqb (length cell) 3) g)))
 
-  pub young-stored : {u : List ℕ} → r ≡ Done → Turns (on_young (with_cell i (cell_in cell))) v u → Leaves (store_young i (cell_in cell) hy) w Done u
+  pub young-stored : {u : List ℕ} → r ≡ Ok tt → Turns (on_young (with_cell i (cell_in cell))) v u → Leaves (store_young i (cell_in cell) hy) w (Ok tt) u
   unfolding with_young
   young-stored e t = let (x, m, k) = counted-young e in rw (young-is, m) (done (t.turns _ k))
 
-  pub young-refused : (q : ℕ) → r ≡ Refused q → Leaves (store_young i (cell_in cell) hy) w (Refused q) v
-  unfolding count_young
+  pub young-refused : (q : Question) → r ≡ Err q → Leaves (store_young i (cell_in cell) hy) w (Err q) v
+  unfolding on_counts bar_of on_bar
   young-refused q e =
       let (m, k) = refused-of l e in
-      left-refused q (young-is ∙ no-barrier _ _ (recounted 0 out old new hy.young.bar) q m) k
+      left-refused q (young-is ∙ no-barrier _ _ (recounted 0 out old new hy.young.bar) (number q) m) k
 
 -- by the place
 
@@ -207,10 +210,10 @@ other-written h p c l = go p.heap refl
 -- a write whose value got a yes from 3
 
 module _ (w : List ℕ) (p : Pointer) (cell : List ℕ) (g : value_good cell ≡ true) where
-  pub formed-written : {r : Stored} {v : List ℕ} (k : ℕ) (x : ℤ) → p.heap ≡ k → x ≡ p.offset → Leaves (write (decode w) (pointer k p.base (of_z w64 x)) (cell_in cell)) w r v → left w (write_on (decode w) (pointer_of p) cell) ≡ stored_outcome r v
+  pub formed-written : {r : Result (Unit {0}) Question} {v : List ℕ} (k : ℕ) (x : ℤ) → p.heap ≡ k → x ≡ p.offset → Leaves (write (decode w) (pointer k p.base (of_z w64 x)) (cell_in cell)) w r v → left w (write_on (decode w) (pointer_of p) cell) ≡ stored_outcome r v
   unfolding write_on
   formed-written k x e f l = rw g (leaves-left (rw (pointer_is p k x e f) at l))
 
-  pub formed-other : 2 ≤ p.heap → left w (write_on (decode w) (pointer_of p) cell) ≡ stored_outcome (Refused 8) w
+  pub formed-other : 2 ≤ p.heap → left w (write_on (decode w) (pointer_of p) cell) ≡ stored_outcome (Err Access) w
   unfolding write_on
-  formed-other l = rw g (leaves-left (left-refused 8 (other-written (decode w) (pointer_of p) (cell_in cell) l) refl))
+  formed-other l = rw g (leaves-left (left-refused Access (other-written (decode w) (pointer_of p) (cell_in cell) l) refl))

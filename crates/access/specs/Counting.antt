@@ -1,15 +1,15 @@
 -- What a write counts, and what it leaves.
-use Rattle.std.specs.Prelude.{Bool, true, false, not, List, ℕ, ◌%◌, eqb, get_or}
+use Rattle.std.specs.Prelude.{Bool, true, false, not, List, ℕ, Result, Ok, Err, ◌%◌, eqb, get_or}
 use Rattle.model.specs.Res.{Res, ok, refuse, ◌>>=◌}
 use Rattle.model.specs.Records.{Cell, plain, ref, blank}
 use Rattle.model.specs.Barrier.{Barrier, absent, present, count_in, count_out}
 use Rattle.model.specs.Heap.{Heap}
 use Rattle.model.specs.Collector.{write_young, write_old}
+use Rattle.question.specs.Question.{number}
+use Rattle.question.specs.declared.Question.{Question}
 use Rattle.theorems.specs.Fit.{Image}
 use Rattle.theorems.specs.Does.{with_young, with_old}
-use Rattle.fields.specs.Fields.{on_young, on_old, with_bar, with_old_bar, bar_of, on_bar, with_count}
-use Rattle.access.specs.declared.Stored.{Stored}
-use Rattle.access.specs.declared.Stored.TheVariants.{Done, Refused}
+use Rattle.fields.specs.Fields.{bar_of, on_bar, with_count}
 
 abbrev pub out_if : Bool → ℕ → Cell → Barrier → Res Barrier
 out_if true own c b = count_out own c b
@@ -47,16 +47,6 @@ count_of own c d b = elim (crosses own c) [ true ↦ count_from (place_of c) d b
 unfoldable pub on_counts : ℕ → (Barrier → Res Barrier) → Heap → Res Heap
 on_counts own f h = f (bar_of own h) >>= λ b. ok (on_bar own b h)
 
--- what a step on it came to, of which only the count of the cell c is stored
-unfoldable pub storing : ℕ → Cell → Res Barrier → Heap → Res Heap
-storing own c step h = step >>= λ d. ok (on_bar own (count_of own c d (bar_of own h)) h)
-
-unfoldable pub count_young : Bool → Cell → Cell → Heap → Res Heap
-count_young out old new h = recounted 0 out old new h.young.bar >>= λ b. ok (on_young (with_bar b) h)
-
-unfoldable pub count_old : Cell → Cell → Heap → Res Heap
-count_old old new h = recounted 1 true old new h.old.bar >>= λ b. ok (on_old (with_old_bar b) h)
-
 -- a write at a place that is known to be there
 
 unfoldable pub store_young : ℕ → Cell → Heap → Res Heap
@@ -66,6 +56,6 @@ unfoldable pub store_old : ℕ → List Cell → ℕ → Cell → Heap → Res H
 store_old b s o c h = write_old h.old b s o c >>= λ e. ok (with_old e h)
 
 -- the words w became the image of the heap that was answered; a refusal leaves them as they were
-pub data Leaves : Res Heap → List ℕ → Stored → List ℕ → Type 0 where
-  done : {h : Heap} {w v : List ℕ} → Image v h → Leaves (ok h) w Done v
-  kept : {q : ℕ} {w : List ℕ} → Leaves (refuse q) w (Refused q) w
+pub data Leaves : Res Heap → List ℕ → Result (Unit {0}) Question → List ℕ → Type 0 where
+  done : {h : Heap} {w v : List ℕ} → Image v h → Leaves (ok h) w (Ok tt) v
+  kept : {q : Question} {w : List ℕ} → Leaves (refuse (number q)) w (Err q) w

@@ -6,11 +6,10 @@ ghost use Rattle.model.specs.Image.{decode};
 ghost use Rattle.theorems.specs.Fit.{Image};
 ghost use Rattle.value.specs.Value.{value_cell};
 ghost use Rattle.question.specs.Question.{answer};
-ghost use Rattle.barrier.specs.Counts.{barrier_of};
+ghost use Rattle.barrier.specs.Counts.{barrier_of, step_of};
 ghost use Rattle.fields.specs.Fields.{Turns, bar_of, on_bar};
-ghost use Rattle.access.specs.Counting.{gone_if, crosses, count_of, storing, recounted, on_counts, Leaves};
+ghost use Rattle.access.specs.Counting.{gone_if, crosses, count_of, recounted, on_counts, Leaves};
 
-use crate::Stored;
 use barrier::WriteBarrier;
 use question::Question;
 use value::Value;
@@ -49,58 +48,38 @@ fn store_count(image: &mut [u64], own: u8, v: Value, b: WriteBarrier)
     fields::put_count(image, own, at, n as u64);
 }
 
-// What a step on the barrier came to: the count of its value stored, or its refusal.
-fn store_step(image: &mut [u64], own: u8, v: Value, step: Result<WriteBarrier, Question>) -> Stored
+// One value counts: in if `into`, else out.
+fn count_alone(image: &mut [u64], own: u8, into: bool, v: Value) -> Result<(), Question>
     requires { Image image.old (decode image.old) }
-    ensures { Leaves (storing own (value_cell v) (answer barrier_of step) (decode image.old)) image.old result image.new }
+    ensures { Leaves (on_counts own (step_of into own (value_cell v)) (decode image.old)) image.old result image.new }
 {
-    match step {
-        Ok(b) => {
-            store_count(image, own, v, b);
-            Stored::Done
-        }
-        Err(q) => Stored::Refused(q.number()),
-    }
-}
-
-// One value counts.
-fn count_in_alone(image: &mut [u64], own: u8, new: Value) -> Stored
-    requires { Image image.old (decode image.old) }
-    ensures { Leaves (on_counts own (count_in own (value_cell new)) (decode image.old)) image.old result image.new }
-{
-    let b = fields::barrier_of(image, own);
-    store_step(image, own, new, b.count_in(own, new))
-}
-
-fn count_out_alone(image: &mut [u64], own: u8, old: Value) -> Stored
-    requires { Image image.old (decode image.old) }
-    ensures { Leaves (on_counts own (count_out own (value_cell old)) (decode image.old)) image.old result image.new }
-{
-    let b = fields::barrier_of(image, own);
-    store_step(image, own, old, b.count_out(own, old))
+    let before = fields::barrier_of(image, own);
+    let b = before.count(own, into, v)?;
+    store_count(image, own, v, b);
+    Ok(())
 }
 
 // Both count. Nothing is stored before both steps have got their answer.
-fn count_both(image: &mut [u64], own: u8, old: Value, new: Value) -> Stored
+fn count_both(image: &mut [u64], own: u8, old: Value, new: Value) -> Result<(), Question>
     requires { Image image.old (decode image.old) }
     ensures { Leaves (on_counts own (recounted own true (value_cell old) (value_cell new)) (decode image.old)) image.old result image.new }
 {
     let b = fields::barrier_of(image, own);
-    let less = match b.count_out(own, old) {
-        Ok(less) => less,
-        Err(q) => return Stored::Refused(q.number()),
-    };
-    let more = match less.count_in(own, new) {
-        Ok(more) => more,
-        Err(q) => return Stored::Refused(q.number()),
-    };
+    let less = b.count_out(own, old)?;
+    let more = less.count_in(own, new)?;
     store_count(image, own, old, less);
     store_count(image, own, new, more);
-    Stored::Done
+    Ok(())
 }
 
 // The old cell is counted out only if `out`, the new one in.
-pub fn recount(image: &mut [u64], own: u8, out: bool, old: Value, new: Value) -> Stored
+pub fn recount(
+    image: &mut [u64],
+    own: u8,
+    out: bool,
+    old: Value,
+    new: Value,
+) -> Result<(), Question>
     requires { Image image.old (decode image.old) }
     ensures { Leaves (on_counts own (recounted own out (value_cell old) (value_cell new)) (decode image.old)) image.old result image.new }
 {
@@ -109,10 +88,10 @@ pub fn recount(image: &mut [u64], own: u8, out: bool, old: Value, new: Value) ->
         if crosses(own, new) {
             return count_both(image, own, was, new);
         }
-        return count_out_alone(image, own, was);
+        return count_alone(image, own, false, was);
     }
     if crosses(own, new) {
-        return count_in_alone(image, own, new);
+        return count_alone(image, own, true, new);
     }
-    Stored::Done
+    Ok(())
 }

@@ -18,22 +18,10 @@ ghost use Rattle.value.specs.Value.{value_cell};
 ghost use Rattle.trace.specs.Words.{pointer};
 ghost use Rattle.fields.specs.Fields.{cell_in};
 ghost use Rattle.access.specs.Access.{pointer_of, stored_outcome, ValueOf, Loads, LoadsFrom};
-ghost use Rattle.access.specs.Counting.{count_young, count_old, store_young, store_old, Leaves};
+ghost use Rattle.access.specs.Counting.{store_young, store_old, Leaves};
 
+use question::Question;
 use value::{Pointer, Value, Words};
-
-// Refused has the number of the question that got a no.
-#[derive(Clone, Copy)]
-pub enum Loaded {
-    Value(Value),
-    Refused(u64),
-}
-
-#[derive(Clone, Copy)]
-pub enum Stored {
-    Done,
-    Refused(u64),
-}
 
 // The value of a valid cell's words.
 fn cell_value(w: Words) -> Value
@@ -52,31 +40,29 @@ fn young_value(image: &[u64], i: usize) -> Value
     cell_value(fields::young_cell(image, i))
 }
 
-fn read_young(image: &[u64], base: u64, offset: i64) -> Loaded
+fn read_young(image: &[u64], base: u64, offset: i64) -> Result<Value, Question>
     requires { Image image.now (decode image.now) }
     ensures { Loads (read (decode image.now) (pointer 0 base (of_z w64 offset))) result }
 {
     let n = fields::header_of(image).n as usize;
-    match places::index(base, offset, n) {
-        Ok(i) => Loaded::Value(young_value(image, i)),
-        Err(q) => Loaded::Refused(q.number()),
-    }
+    let i = places::index(base, offset, n)?;
+    Ok(young_value(image, i))
 }
 
 // A negative offset's word is above every length, and so outside the allocation.
-fn read_old(image: &[u64], base: u64, offset: i64) -> Loaded
+fn read_old(image: &[u64], base: u64, offset: i64) -> Result<Value, Question>
     requires { Image image.now (decode image.now) }
     ensures { Loads (read (decode image.now) (pointer 1 base (of_z w64 offset))) result }
 {
     let o = value::unsigned(offset);
     let Some(cell) = layout::read_elder(image, base, o) else {
-        return Loaded::Refused(8);
+        return Err(Question::Access);
     };
-    Loaded::Value(cell_value(cell))
+    Ok(cell_value(cell))
 }
 
-// Any other heap: 8.
-pub fn read_formed(image: &[u64], p: Pointer) -> Loaded
+// There is no other heap.
+pub fn read_formed(image: &[u64], p: Pointer) -> Result<Value, Question>
     requires { Image image.now (decode image.now) }
     ensures { Loads (read (decode image.now) (pointer_of p)) result }
 {
@@ -84,17 +70,15 @@ pub fn read_formed(image: &[u64], p: Pointer) -> Loaded
     match heap {
         0 => read_young(image, p.base, p.offset),
         1 => read_old(image, p.base, p.offset),
-        _ => Loaded::Refused(8),
+        _ => Err(Question::Access),
     }
 }
 
-pub fn read(image: &[u64], p: Pointer) -> Loaded
+pub fn read(image: &[u64], p: Pointer) -> Result<Value, Question>
     ensures { LoadsFrom image.now (pointer_of p) result }
 {
-    match image::check(image) {
-        Ok(()) => read_formed(image, p),
-        Err(q) => Loaded::Refused(q.number()),
-    }
+    image::check(image)?;
+    read_formed(image, p)
 }
 
 // The value of a cell that 3 was asked of.
@@ -107,15 +91,8 @@ fn new_value(cell: &[u64]) -> Value
 
 // ---- In the nursery
 
-fn count_young(image: &mut [u64], out: bool, old: Value, new: Value) -> Stored
-    requires { Image image.old (decode image.old) }
-    ensures { Leaves (count_young out (value_cell old) (value_cell new) (decode image.old)) image.old result image.new }
-{
-    counts::recount(image, 0, out, old, new)
-}
-
 // The cell takes the place of the i-th, which counts only below the cursor.
-fn store_young(image: &mut [u64], i: usize, cell: &[u64]) -> Stored
+fn store_young(image: &mut [u64], i: usize, cell: &[u64]) -> Result<(), Question>
     requires image { Image image.old (decode image.old) }
     requires i_bound { i < (decode image.old).size.n }
     requires cell_value { value_good cell.now ≡ true }
@@ -125,38 +102,31 @@ fn store_young(image: &mut [u64], i: usize, cell: &[u64]) -> Stored
     let new = new_value(cell);
     let end = fields::header_of(image).cursor;
     let out = (i as u64) < end;
-    match count_young(image, out, old, new) {
-        Stored::Done => {
-            fields::put_young_cell(image, i, cell);
-            Stored::Done
-        }
-        Stored::Refused(q) => Stored::Refused(q),
-    }
+    counts::recount(image, 0, out, old, new)?;
+    fields::put_young_cell(image, i, cell);
+    Ok(())
 }
 
-fn write_young(image: &mut [u64], base: u64, offset: i64, cell: &[u64]) -> Stored
+fn write_young(image: &mut [u64], base: u64, offset: i64, cell: &[u64]) -> Result<(), Question>
     requires image { Image image.old (decode image.old) }
     requires cell_value { value_good cell.now ≡ true }
     ensures { Leaves (write (decode image.old) (pointer 0 base (of_z w64 offset)) (cell_in cell.now)) image.old result image.new }
 {
     let n = fields::header_of(image).n as usize;
-    match places::index(base, offset, n) {
-        Ok(i) => store_young(image, i, cell),
-        Err(q) => Stored::Refused(q.number()),
-    }
+    let i = places::index(base, offset, n)?;
+    store_young(image, i, cell)
 }
 
 // ---- In the elder
 
-fn count_old(image: &mut [u64], old: Value, new: Value) -> Stored
-    requires { Image image.old (decode image.old) }
-    ensures { Leaves (count_old (value_cell old) (value_cell new) (decode image.old)) image.old result image.new }
-{
-    counts::recount(image, 1, true, old, new)
-}
-
 // The cell takes the place of the old one at (base, offset), which is there.
-fn store_old(image: &mut [u64], base: u64, offset: u64, old: Value, cell: &[u64]) -> Stored
+fn store_old(
+    image: &mut [u64],
+    base: u64,
+    offset: u64,
+    old: Value,
+    cell: &[u64],
+) -> Result<(), Question>
     requires image { Image image.old (decode image.old) }
     requires offset_in_bounds { offset < length (get_or (decode image.old).old.slots base []) }
     requires value { value_cell old ≡ get_or (get_or (decode image.old).old.slots base []) offset blank }
@@ -164,47 +134,39 @@ fn store_old(image: &mut [u64], base: u64, offset: u64, old: Value, cell: &[u64]
     ensures { Leaves (store_old base (get_or (decode image.old).old.slots base []) offset (cell_in cell.now) (decode image.old)) image.old result image.new }
 {
     let new = new_value(cell);
-    match count_old(image, old, new) {
-        Stored::Done => {
-            layout::write_elder(image, base, offset, cell);
-            Stored::Done
-        }
-        Stored::Refused(q) => Stored::Refused(q),
-    }
+    counts::recount(image, 1, true, old, new)?;
+    layout::write_elder(image, base, offset, cell);
+    Ok(())
 }
 
-fn write_old(image: &mut [u64], base: u64, offset: i64, cell: &[u64]) -> Stored
+fn write_old(image: &mut [u64], base: u64, offset: i64, cell: &[u64]) -> Result<(), Question>
     requires image { Image image.old (decode image.old) }
     requires cell_value { value_good cell.now ≡ true }
     ensures { Leaves (write (decode image.old) (pointer 1 base (of_z w64 offset)) (cell_in cell.now)) image.old result image.new }
 {
-    match read_old(image, base, offset) {
-        Loaded::Value(old) => store_old(image, base, value::unsigned(offset), old, cell),
-        Loaded::Refused(q) => Stored::Refused(q),
-    }
+    let old = read_old(image, base, offset)?;
+    store_old(image, base, value::unsigned(offset), old, cell)
 }
 
-// Any other heap: 8.
-pub fn write_formed(image: &mut [u64], p: Pointer, cell: &[u64]) -> Stored
+// There is no other heap.
+pub fn write_formed(image: &mut [u64], p: Pointer, cell: &[u64]) -> Result<(), Question>
     requires { Image image.old (decode image.old) }
     ensures { on_formed (writes (pointer_of p) cell.now) image.old ≡ stored_outcome result image.new }
 {
     if !image::value_ok(cell) {
-        return Stored::Refused(3);
+        return Err(Question::Cells);
     }
     let heap = p.heap;
     match heap {
         0 => write_young(image, p.base, p.offset, cell),
         1 => write_old(image, p.base, p.offset, cell),
-        _ => Stored::Refused(8),
+        _ => Err(Question::Access),
     }
 }
 
-pub fn write(image: &mut [u64], p: Pointer, cell: &[u64]) -> Stored
+pub fn write(image: &mut [u64], p: Pointer, cell: &[u64]) -> Result<(), Question>
     ensures { call (writes (pointer_of p) cell.now) image.old ≡ stored_outcome result image.new }
 {
-    match image::check(image) {
-        Ok(()) => write_formed(image, p, cell),
-        Err(q) => Stored::Refused(q.number()),
-    }
+    image::check(image)?;
+    write_formed(image, p, cell)
 }

@@ -15,10 +15,11 @@ use Rattle.theorems.proofs.Res.{holds_at}
 use Rattle.theorems.proofs.Collect.{good-heap-fit}
 use Rattle.theorems.proofs.Calls.{Left, report-left}
 use Rattle.theorems.proofs.Kept.{fit-good, refused-ok}
+use Rattle.std.proofs.Common.{Result, Ok, Err}
+use Rattle.question.specs.Question.{number}
+use Rattle.question.specs.declared.Question.{Question}
 use Rattle.report.specs.Numbers.{numbers, report_outcome}
 use Rattle.report.specs.declared.Statistics.{Statistics}
-use Rattle.report.specs.declared.Reported.{Reported}
-use Rattle.report.specs.declared.Reported.TheVariants.{Taken, Refused}
 use Rattle.registers.specs.declared.Registers.{Registers}
 use Rattle.registers.specs.Cells.{cells_of_registers, Good}
 use Rattle.command.specs.declared.answers.Answer.{Answer}
@@ -28,7 +29,7 @@ use Rattle.command.specs.Steps.{Acts}
 use Rattle.command.proofs.Heaps.{no-heap, the_heap_lem, refuses, answers, heap-encoded, held_after}
 
 module _ (w v : List ℕ) where
-  same-report : (s : Statistics) (m : Res (List ℕ × Heap)) → reported w m ≡ report_outcome (Taken s) v → (x : List ℕ × Heap) × (m ≡ ok x) × (numbers s ≡ x.0) × (v ≡ encode x.1)
+  same-report : (s : Statistics) (m : Res (List ℕ × Heap)) → reported w m ≡ report_outcome (Ok s) v → (x : List ℕ × Heap) × (m ≡ ok x) × (numbers s ≡ x.0) × (v ≡ encode x.1)
   unfolding reported report_outcome
   same-report s (ok x) e =
       let answer : ok x.0 ≡ ok (numbers s) = ap (λ (o : Outcome). o.answer) e in
@@ -36,12 +37,12 @@ module _ (w v : List ℕ) where
       (x, refl, same, sym (ap (λ (o : Outcome). o.image) e))
   same-report s (refuse q) e = absurd (refused-ok (ap (λ (o : Outcome). o.answer) e))
 
-  same-refusal : {q : ℕ} (m : Res (List ℕ × Heap)) → reported w m ≡ report_outcome (Refused q) v → (m ≡ refuse q) × (v ≡ w)
+  same-refusal : (q : Question) (m : Res (List ℕ × Heap)) → reported w m ≡ report_outcome (Err q) v → (m ≡ refuse (number q)) × (v ≡ w)
   unfolding reported report_outcome
-  same-refusal (ok x) e = absurd (refused-ok (sym (ap (λ (o : Outcome). o.answer) e)))
-  same-refusal {q} (refuse p) e =
-      let answer : refuse p ≡ refuse q = ap (λ (o : Outcome). o.answer) e in
-      let same : p ≡ q = cc in
+  same-refusal q (ok x) e = absurd (refused-ok (sym (ap (λ (o : Outcome). o.answer) e)))
+  same-refusal q (refuse p) e =
+      let answer : refuse p ≡ refuse (number q) = ap (λ (o : Outcome). o.answer) e in
+      let same : p ≡ number q = cc in
       (ap refuse same, sym (ap (λ (o : Outcome). o.image) e))
 
 pub report-heapless : {w : List ℕ} {r r' : Registers} {a : Answer} → Held w → Good r → length w ≡ 0 → (a ≡ answer.Refused 14) × (r' ≡ r) → Acts report w r a w r'
@@ -58,13 +59,13 @@ module _ {w : List ℕ} {r : Registers} (h : Held w) (pos : 0 < length w) (g : G
       let fit = good-heap-fit left.good in
       answers (rw (step_is, gave, same, image, heap-encoded fit)) tt (rw image (held_after fit h pos left.same_size)) g
 
-  module _ (o : Reported) (v : List ℕ) (e : reported w (report_of (decode w)) ≡ report_outcome o v) where
-    pub report-refused : {q : ℕ} {a : Answer} {r' : Registers} → o ≡ Refused q → (a ≡ answer.Refused q) × (r' ≡ r) → Acts report w r a v r'
-    report-refused f s =
-        let (no_answer, same) = same-refusal w v _ (e ∙ ap (λ (x : Reported). report_outcome x v) f) in
-        rw same (refuses h g (rw (step_is, no_answer)) s)
+  module _ (o : Result Statistics Question) (v : List ℕ) (e : reported w (report_of (decode w)) ≡ report_outcome o v) where
+    pub report-refused : {q : Question} {n : ℕ} {a : Answer} {r' : Registers} → o ≡ Err q → n ≡ number q → (a ≡ answer.Refused n) × (r' ≡ r) → Acts report w r a v r'
+    report-refused f m s =
+        let (no_answer, same) = same-refusal w v _ _ (e ∙ ap (λ (x : Result Statistics Question). report_outcome x v) f) in
+        rw same (refuses h g (rw (step_is, no_answer, m)) s)
 
-    pub report-acts : {s : Statistics} → o ≡ Taken s → Acts report w r (answer.Report s) v r
+    pub report-acts : {s : Statistics} → o ≡ Ok s → Acts report w r (answer.Report s) v r
     report-acts f =
-        let (x, gave, same, image) = same-report w v _ _ (e ∙ ap (λ (x : Reported). report_outcome x v) f) in
+        let (x, gave, same, image) = same-report w v _ _ (e ∙ ap (λ (x : Result Statistics Question). report_outcome x v) f) in
         same-acts gave (holds_at (report-left ⊥ (decode w) (fit-good (h.formed pos).fit)) gave) same image

@@ -27,10 +27,6 @@ use Rattle.value.specs.Value.{value_cell, Whole, Spelled}
 use Rattle.figure.specs.Answer.{figured_answer}
 use Rattle.figure.specs.declared.Figure.{Figure}
 use Rattle.access.specs.Access.{pointer_of, loaded_cell, Loads, stored_outcome}
-use Rattle.access.specs.declared.Loaded.{Loaded}
-use Rattle.access.specs.declared.Loaded.TheVariants as loaded
-use Rattle.access.specs.declared.Stored.{Stored}
-use Rattle.access.specs.declared.Stored.TheVariants as stored
 use Rattle.registers.specs.declared.Registers.{Registers}
 use Rattle.registers.specs.Cells.{cells_of_registers, unset, GoodValue, Good}
 use Rattle.registers.proofs.Values.{spelled-good, got_cell, got-good, set-cells, set-good}
@@ -108,7 +104,7 @@ module _ (w : List ℕ) (r : Registers) where
 
 -- load
 
-module _ {w : List ℕ} (h : Held w) (l : 0 < length w) (p : Ptr) {x : Loaded} (m : Loads (read (decode w) p) x) {u : Value} (f : x ≡ loaded.Value u) where
+module _ {w : List ℕ} (h : Held w) (l : 0 < length w) (p : Ptr) {x : Result Value Question} (m : Loads (read (decode w) p) x) {u : Value} (f : x ≡ Ok u) where
   loaded-good : GoodValue u
   unfolding loaded_cell
   loaded-good = record {
@@ -134,15 +130,15 @@ module _ {w : List ℕ} {r : Registers} (k p d : ℕ) (h : Held w) (g : Good r) 
     pub load-nowhere : {q : Question} {n : ℕ} {a : Answer} {s : Registers} → t ≡ Err q → n ≡ number q → (a ≡ answer.Refused n) × (s ≡ r) → Acts (load k p d) w r a w s
     load-nowhere f m = refuses h g (rw (load_is, f, m))
 
-    module _ {y : Pointer} (aim : t ≡ Ok y) (x : Loaded) (m : Loads (read (decode w) (pointer_of y)) x) where
+    module _ {y : Pointer} (aim : t ≡ Ok y) (x : Result Value Question) (m : Loads (read (decode w) (pointer_of y)) x) where
       load-reads : step (load k p d) (state_of w r) ≡ (loaded_cell x >>= put_in w r k)
       load-reads = rw (load_is, aim, ← m.cell)
 
-      pub load-refused : {q : ℕ} {a : Answer} {s : Registers} → x ≡ loaded.Refused q → (a ≡ answer.Refused q) × (s ≡ r) → Acts (load k p d) w r a w s
+      pub load-refused : {q : Question} {n : ℕ} {a : Answer} {s : Registers} → x ≡ Err q → n ≡ number q → (a ≡ answer.Refused n) × (s ≡ r) → Acts (load k p d) w r a w s
       unfolding loaded_cell
-      load-refused f = refuses h g (rw (load-reads, f))
+      load-refused f m = refuses h g (rw (load-reads, f, m))
 
-      pub load-done : {u : Value} {a : Answer} {s : Registers} → x ≡ loaded.Value u → (a ≡ answer.Load u) × (s.cells ≡ put r.cells k u) → Acts (load k p d) w r a w s
+      pub load-done : {u : Value} {a : Answer} {s : Registers} → x ≡ Ok u → (a ≡ answer.Load u) × (s.cells ≡ put r.cells k u) → Acts (load k p d) w r a w s
       unfolding loaded_cell
       load-done {u} {s = s} f (is, now) =
           let good = loaded-good h l (pointer_of y) m f in
@@ -169,7 +165,7 @@ module _ {w : List ℕ} {r : Registers} (k p d : ℕ) (h : Held w) (g : Good r) 
     store-nowhere f m = refuses h g (rw (store_is, f, m))
 
     module _ {y : Pointer} (aim : t ≡ Ok y) {a b o : ℕ} (words : (a ∷ b ∷ o ∷ []) ≡ cell_words (value_cell u ∷ []))
-        (x : Stored) (z : List ℕ) (m : left w (write_on (decode w) (pointer_of y) (a ∷ b ∷ o ∷ [])) ≡ stored_outcome x z) where
+        (x : Result (Unit {0}) Question) (z : List ℕ) (m : left w (write_on (decode w) (pointer_of y) (a ∷ b ∷ o ∷ [])) ≡ stored_outcome x z) where
       good : GoodValue u
       good = got-good r k here g
 
@@ -179,13 +175,13 @@ module _ {w : List ℕ} {r : Registers} (k p d : ℕ) (h : Held w) (g : Good r) 
       store_writes : step (store k p d) (state_of w r) ≡ (write_on (decode w) (pointer_of y) (a ∷ b ∷ o ∷ []) >>= kept w r)
       store_writes = rw (store_is, aim, as-cell)
 
-      pub store-done : x ≡ stored.Done → Acts (store k p d) w r answer.Store z r
+      pub store-done : x ≡ Ok tt → Acts (store k p d) w r answer.Store z r
       store-done f =
           let (n, answered, is) = done-left (write_on (decode w) (pointer_of y) (a ∷ b ∷ o ∷ [])) w z x m f in
           let wrote = sym as-cell ∙ answered in
           answers (rw (store_writes, answered, heap-written h l (pointer_of y) (value_cell u) good.cell wrote is)) tt (held-written h l (pointer_of y) (value_cell u) good.cell wrote is) g
 
-      pub store-refused : {q : ℕ} {c : Answer} {s : Registers} → x ≡ stored.Refused q → (c ≡ answer.Refused q) × (s ≡ r) → Acts (store k p d) w r c z s
-      store-refused {q} f n =
+      pub store-refused : {q : Question} {n : ℕ} {c : Answer} {s : Registers} → x ≡ Err q → n ≡ number q → (c ≡ answer.Refused n) × (s ≡ r) → Acts (store k p d) w r c z s
+      store-refused {q} f e n =
           let (refusal_is, is) = refused-left (write_on (decode w) (pointer_of y) (a ∷ b ∷ o ∷ [])) w z x q m f in
-          rw is (refuses h g (rw (store_writes, refusal_is)) n)
+          rw is (refuses h g (rw (store_writes, refusal_is, e)) n)

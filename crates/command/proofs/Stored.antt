@@ -5,6 +5,7 @@ use mathlib.Core.List.{List, [], ◌∷◌}
 use mathlib.Core.Option.{some}
 use Prim.Native.Nat.{ℕ, ◌<◌}
 use lib.ListN.{length}
+use Rattle.std.specs.Prelude.{Result, Ok, Err}
 use Rattle.model.specs.Res.{Res, ok, refuse}
 use Rattle.model.specs.Records.{Ptr, Cell, cell_words, valid, whole_cells}
 use Rattle.model.specs.Heap.{Heap}
@@ -15,9 +16,10 @@ use Rattle.theorems.proofs.Res.{holds_at}
 use Rattle.theorems.proofs.Collect.{good-heap-fit}
 use Rattle.theorems.proofs.Calls.{Left, write-left}
 use Rattle.theorems.proofs.Kept.{fit-good, refused-ok}
+use Rattle.question.specs.Question.{number}
+use Rattle.question.specs.declared.Question.{Question}
+use Rattle.image.specs.Answers.{made_outcome}
 use Rattle.access.specs.Access.{stored_outcome}
-use Rattle.access.specs.declared.Stored.{Stored}
-use Rattle.access.specs.declared.Stored.TheVariants.{Done, Refused}
 use Rattle.access.proofs.Cells.{read-valid, read_cell}
 use Rattle.command.specs.State.{heap_in, Held}
 use Rattle.command.proofs.Heaps.{heap-encoded, held_after}
@@ -29,17 +31,17 @@ written_as h p c e t = rw (read-valid c (sym e) t, read_cell c (sym e) t)
 
 -- what was left, by the answer
 
-pub done-left : (m : Res Heap) (w v : List ℕ) (r : Stored) → left w m ≡ stored_outcome r v → r ≡ Done → (h : Heap) × (m ≡ ok h) × (v ≡ encode h)
-unfolding left stored_outcome
-done-left (ok h) w v r e f = (h, refl, sym (ap (λ (o : Outcome). o.image) (e ∙ ap (λ (s : Stored). stored_outcome s v) f)))
-done-left (refuse q) w v r e f = absurd (refused-ok (ap (λ (o : Outcome). o.answer) (e ∙ ap (λ (s : Stored). stored_outcome s v) f)))
+pub done-left : (m : Res Heap) (w v : List ℕ) (r : Result (Unit {0}) Question) → left w m ≡ stored_outcome r v → r ≡ Ok tt → (h : Heap) × (m ≡ ok h) × (v ≡ encode h)
+unfolding left made_outcome
+done-left (ok h) w v r e f = (h, refl, sym (ap (λ (o : Outcome). o.image) (e ∙ ap (λ (s : Result (Unit {0}) Question). stored_outcome s v) f)))
+done-left (refuse q) w v r e f = absurd (refused-ok (ap (λ (o : Outcome). o.answer) (e ∙ ap (λ (s : Result (Unit {0}) Question). stored_outcome s v) f)))
 
-pub refused-left : (m : Res Heap) (w v : List ℕ) (r : Stored) (q : ℕ) → left w m ≡ stored_outcome r v → r ≡ Refused q → (m ≡ refuse q) × (v ≡ w)
-unfolding left stored_outcome
-refused-left (ok h) w v r q e f = absurd (refused-ok (sym (ap (λ (o : Outcome). o.answer) (e ∙ ap (λ (s : Stored). stored_outcome s v) f))))
+pub refused-left : (m : Res Heap) (w v : List ℕ) (r : Result (Unit {0}) Question) (q : Question) → left w m ≡ stored_outcome r v → r ≡ Err q → (m ≡ refuse (number q)) × (v ≡ w)
+unfolding left made_outcome
+refused-left (ok h) w v r q e f = absurd (refused-ok (sym (ap (λ (o : Outcome). o.answer) (e ∙ ap (λ (s : Result (Unit {0}) Question). stored_outcome s v) f))))
 refused-left (refuse p) w v r q e f =
-    let o = e ∙ ap (λ (s : Stored). stored_outcome s v) f in
-    let same : p ≡ q = (let a = ap (λ (o : Outcome). o.answer) o in cc) in
+    let o = e ∙ ap (λ (s : Result (Unit {0}) Question). stored_outcome s v) f in
+    let same : p ≡ number q = (let a = ap (λ (o : Outcome). o.answer) o in cc) in
     (ap refuse same, sym (ap (λ (o : Outcome). o.image) o))
 
 module _ {w : List ℕ} (held : Held w) (some_words : 0 < length w) (p : Ptr) (c : Cell) (t : valid c ≡ true) {h : Heap} {v : List ℕ} (e : write (decode w) p c ≡ ok h) (is : v ≡ encode h) where

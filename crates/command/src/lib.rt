@@ -17,12 +17,10 @@ ghost use Rattle.reader.specs.Answer.{model_command};
 ghost use Rattle.command.specs.State.{holding, heapless, Held, Ready};
 ghost use Rattle.command.specs.Steps.{target_answer, target_in, is_new, Acts, Performs, made_answer, made_words};
 
-use access::{Loaded, Stored};
 pub use answers::Answer;
 use question::Question;
 use reader::{Access, Command};
 use registers::Registers;
-use report::Reported;
 use value::{Pointer, Value};
 
 // The heap's words in a buffer, 0 without a heap; and the registers.
@@ -125,11 +123,11 @@ fn load_in(image: &[u64], registers: &mut Registers, a: Access) -> Answer
     }
     match target_of(registers.get(a.pointer as usize), a.offset) {
         Ok(p) => match access::read_formed(image, p) {
-            Loaded::Value(v) => {
+            Ok(v) => {
                 registers.set(a.register as usize, v);
                 Answer::Load(v)
             }
-            Loaded::Refused(q) => Answer::Refused(q),
+            Err(q) => Answer::Refused(q.number()),
         },
         Err(q) => Answer::Refused(q.number()),
     }
@@ -147,8 +145,8 @@ fn store_in(image: &mut [u64], registers: &Registers, a: Access) -> Answer
     let cell = [w.tag, w.payload, w.offset];
     match target_of(registers.get(a.pointer as usize), a.offset) {
         Ok(p) => match access::write_formed(image, p, &cell) {
-            Stored::Done => Answer::Store,
-            Stored::Refused(q) => Answer::Refused(q),
+            Ok(()) => Answer::Store,
+            Err(q) => Answer::Refused(q.number()),
         },
         Err(q) => Answer::Refused(q.number()),
     }
@@ -164,8 +162,8 @@ fn report_in(image: &mut [u64]) -> Answer
         return Answer::Refused(14);
     }
     match report::report_lent_formed(image) {
-        Reported::Taken(s) => Answer::Report(s),
-        Reported::Refused(q) => Answer::Refused(q),
+        Ok(s) => Answer::Report(s),
+        Err(q) => Answer::Refused(q.number()),
     }
 }
 

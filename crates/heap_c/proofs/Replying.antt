@@ -7,7 +7,6 @@ use mir.Syntax.{w64}
 use lib.IntN.{ℤ}
 use mir.Val.{SFits, to_z, of_z}
 use mir.ValLaws.{to_z-of_z}
-use Rattle.std.specs.Prelude.{Result, Ok, Err}
 use Rattle.model.specs.Res.{Res, ok, ◌>>=◌}
 use Rattle.model.specs.Records.{cell_words}
 use Rattle.model.specs.Calls.{Outcome}
@@ -16,60 +15,32 @@ use Rattle.question.specs.declared.Question.{Question}
 use Rattle.value.specs.declared.Value.{Value}
 use Rattle.value.specs.Value.{value_cell}
 use Rattle.image.specs.Answers.{made_outcome}
-use Rattle.question.specs.Question.{number}
-use Rattle.question.specs.declared.Question.{Question}
-use Rattle.access.specs.Access.{loaded_cell, loaded_outcome, stored_outcome}
-use Rattle.access.specs.declared.Loaded.{Loaded}
-use Rattle.access.specs.declared.Loaded.TheVariants as loaded
-use Rattle.access.specs.declared.Stored.{Stored}
-use Rattle.access.specs.declared.Stored.TheVariants as stored
+use Rattle.access.specs.Access.{loaded_outcome}
 use Rattle.collector.specs.Alloc.{alloc_outcome}
 use Rattle.collector.specs.declared.Allocation.{Allocation}
 use Rattle.report.specs.Numbers.{numbers, report_outcome}
 use Rattle.report.specs.declared.Statistics.{Statistics}
-use Rattle.report.specs.declared.Reported.{Reported}
-use Rattle.report.specs.declared.Reported.TheVariants as reported
-use Rattle.heap_c.specs.Replies.{number_of, out_of, words_of, allocation_words, Answers, Leaves, Reports, Allocates}
+use Rattle.heap_c.specs.Replies.{number_of, out_of, allocation_words, Answers, Leaves, Reports, Allocates}
 
 -- an i64 that is handed on, as the machine reads it back
 pub as-given : (x : ℤ) → SFits w64 x → {A : Type 0} (f : ℤ → A) {a : A} → f (to_z w64 (of_z w64 x)) ≡ a → f x ≡ a
 as-given x s f e = ap f (sym (to_z-of_z w64 x s)) ∙ e
 
--- new
+-- new and write
 
-pub made-done : {r : Result (Unit {0}) Question} → r ≡ Ok tt → (v : List ℕ) → Leaves (made_outcome r v) 0 v
+pub done-ok : {r : Result (Unit {0}) Question} → r ≡ Ok tt → (v : List ℕ) → Leaves (made_outcome r v) 0 v
 unfolding number_of made_outcome
-made-done e v = subst (λ (r : Result (Unit {0}) Question). Leaves (made_outcome r v) 0 v) (sym e) (record { number = refl; image = refl })
+done-ok e v = rw e (record { number = refl; image = refl })
 
-pub made-refused : {r : Result (Unit {0}) Question} {q : Question} → r ≡ Err q → (v : List ℕ) → Leaves (made_outcome r v) (number q) v
+pub done-err : {r : Result (Unit {0}) Question} {q : Question} {n : ℕ} → r ≡ Err q → n ≡ number q → (v : List ℕ) → Leaves (made_outcome r v) n v
 unfolding number_of made_outcome
-made-refused {q = q} e v = subst (λ (r : Result (Unit {0}) Question). Leaves (made_outcome r v) (number q) v) (sym e) (record { number = refl; image = refl })
-
--- write
-
-pub stored-done : {r : Stored} → r ≡ stored.Done → (v : List ℕ) → Leaves (stored_outcome r v) 0 v
-unfolding number_of stored_outcome
-stored-done e v = subst (λ (r : Stored). Leaves (stored_outcome r v) 0 v) (sym e) (record { number = refl; image = refl })
-
-pub stored_refused : {r : Stored} {q : ℕ} → r ≡ stored.Refused q → (v : List ℕ) → Leaves (stored_outcome r v) q v
-unfolding number_of stored_outcome
-stored_refused {q = q} e v = subst (λ (r : Stored). Leaves (stored_outcome r v) q v) (sym e) (record { number = refl; image = refl })
-
--- read
-
-pub loaded-value : {r : Loaded} {v : Value} {out before : List ℕ} → r ≡ loaded.Value v → out ≡ cell_words (value_cell v ∷ []) → Answers (words_of (loaded_cell r)) before 0 out
-unfolding number_of out_of words_of loaded_cell
-loaded-value {out = out} {before = before} e f = subst (λ (r : Loaded). Answers (words_of (loaded_cell r)) before 0 out) (sym e) (record { number = refl; written = f })
-
-pub loaded-refused : {r : Loaded} {q : ℕ} {before : List ℕ} → r ≡ loaded.Refused q → Answers (words_of (loaded_cell r)) before q before
-unfolding number_of out_of words_of loaded_cell
-loaded-refused {q = q} {before = before} e = subst (λ (r : Loaded). Answers (words_of (loaded_cell r)) before q before) (sym e) (record { number = refl; written = refl })
+done-err e m v = rw e (record { number = m; image = refl })
 
 -- the words of the cell that is read are the call's
-pub loaded-words : (r : Loaded) {o : Outcome} (w : List ℕ) → o ≡ loaded_outcome r w → words_of (loaded_cell r) ≡ o.answer
-unfolding words_of loaded_cell loaded_outcome
-loaded-words (loaded.Value v) w e = ap (λ (o : Outcome). o.answer) (sym e)
-loaded-words (loaded.Refused q) w e = ap (λ (o : Outcome). o.answer) (sym e)
+pub loaded-words : (r : Result Value Question) {o : Outcome} (w : List ℕ) → o ≡ loaded_outcome r w → answer (λ v. cell_words (value_cell v ∷ [])) r ≡ o.answer
+unfolding loaded_outcome
+loaded-words (Ok v) w e = ap (λ (o : Outcome). o.answer) (sym e)
+loaded-words (Err q) w e = ap (λ (o : Outcome). o.answer) (sym e)
 
 -- alloc
 
@@ -77,25 +48,15 @@ pub words-in : (a : Allocation) {x : ℕ} → x ≡ of_z w64 a.pointer.offset �
 unfolding allocation_words
 words-in a e = ap (λ (x : ℕ). a.pointer.heap ∷ a.pointer.base ∷ x ∷ a.nursery.collections ∷ a.nursery.visits ∷ a.elder.collections ∷ a.elder.visits ∷ []) e
 
-pub allocated-ok : {r : Result Allocation Question} {a : Allocation} {out before : List ℕ} → r ≡ Ok a → out ≡ allocation_words a → (v roots : List ℕ) → Allocates (alloc_outcome r v roots) before 0 out v roots
-unfolding number_of out_of allocation_words alloc_outcome
-allocated-ok {out = out} {before = before} e f v roots = rw e (record { answers = record { number = refl; written = f }; image = refl; roots = refl })
-
-pub allocated-err : {r : Result Allocation Question} {q : Question} {n : ℕ} {before : List ℕ} → r ≡ Err q → n ≡ number q → (v roots : List ℕ) → Allocates (alloc_outcome r v roots) before n before v roots
-unfolding number_of out_of alloc_outcome
-allocated-err {before = before} e m v roots = rw e (record { answers = record { number = m; written = refl }; image = refl; roots = refl })
+pub allocates : (r : Result Allocation Question) {n : ℕ} {out before : List ℕ} → Answers (answer allocation_words r) before n out → (v roots : List ℕ) → Allocates (alloc_outcome r v roots) before n out v roots
+unfolding allocation_words alloc_outcome
+allocates r a v roots = record { answers = a; image = refl; roots = refl }
 
 -- report
 
-pub reported-taken : {r : Reported} {x : Statistics} {out before : List ℕ} → r ≡ reported.Taken x → out ≡ numbers x → (v : List ℕ) → Reports (report_outcome r v) before 0 out v
-unfolding number_of out_of report_outcome
-reported-taken {out = out} {before = before} e f v =
-    subst (λ (r : Reported). Reports (report_outcome r v) before 0 out v) (sym e) (record { answers = record { number = refl; written = f }; image = refl })
-
-pub reported-refused : {r : Reported} {q : ℕ} {before : List ℕ} → r ≡ reported.Refused q → (v : List ℕ) → Reports (report_outcome r v) before q before v
-unfolding number_of out_of report_outcome
-reported-refused {q = q} {before = before} e v =
-    subst (λ (r : Reported). Reports (report_outcome r v) before q before v) (sym e) (record { answers = record { number = refl; written = refl }; image = refl })
+pub reports : (r : Result Statistics Question) {n : ℕ} {out before : List ℕ} → Answers (answer numbers r) before n out → (v : List ℕ) → Reports (report_outcome r v) before n out v
+unfolding report_outcome
+reports r a v = record { answers = a; image = refl }
 
 -- an answer's words, by its value as the model has it
 pub words-of-answer : {T A : Type 0} (f : T → A) (g : A → List ℕ) (r : Result T Question) → answer (λ t. g (f t)) r ≡ (answer f r >>= λ a. ok (g a))

@@ -20,16 +20,14 @@ ghost use Rattle.trace.specs.Words.{pointer};
 ghost use Rattle.image.specs.Places.{sizes};
 ghost use Rattle.image.specs.Answers.{or_zero, made_outcome};
 ghost use Rattle.access.specs.Access.{loaded_cell, stored_outcome};
-ghost use Rattle.collector.specs.Alloc.{alloc_outcome};
-ghost use Rattle.report.specs.Numbers.{report_outcome};
+ghost use Rattle.report.specs.Numbers.{numbers};
 ghost use Rattle.figure.specs.Answer.{model_figure, figured_answer};
 ghost use Rattle.heap_c.specs.Replies.{words_of, allocation_words, figure_words, figure_answer, Answers, Leaves, Reports, Allocates};
 
-use access::{Loaded, Stored};
 use collector::Allocation;
 use figure::Figure;
 use question::Question;
-use report::Reported;
+use report::Statistics;
 use value::{Pointer, Value};
 
 // What is handed to C as N words.
@@ -70,7 +68,7 @@ pub extern "C" fn heap_scratch(n: u64, s: u64, c: u64, r: u64) -> u64
 
 // ---- New
 
-fn made_number(r: Result<(), Question>) -> u64
+fn done_number(r: Result<(), Question>) -> u64
     ensures { (v : List ℕ) → Leaves (made_outcome r v) result v }
 {
     match r {
@@ -84,39 +82,29 @@ fn made_number(r: Result<(), Question>) -> u64
 pub extern "C" fn heap_new(image: &mut [u64], n: u64, t: u64, s: u64, c: u64) -> u64
     ensures { Leaves (new_call (sizes n t s c) image.old) result image.new }
 {
-    made_number(image::fresh(image, n, t, s, c))
+    done_number(image::fresh(image, n, t, s, c))
 }
 
 // ---- Alloc
 
 // The pointer and the four counts.
-fn allocation_words(a: Allocation) -> [u64; 7]
-    ensures { result ≡ allocation_words a }
-{
-    let p = a.pointer;
-    let nursery = a.nursery;
-    let elder = a.elder;
-    let offset = value::unsigned(p.offset);
-    [
-        p.heap as u64,
-        p.base,
-        offset,
-        nursery.collections,
-        nursery.visits,
-        elder.collections,
-        elder.visits,
-    ]
-}
+impl Words<7> for Allocation {
+    ghost words = { allocation_words };
 
-fn answer_allocated(r: Result<Allocation, Question>, out: &mut [u64; 7]) -> u64
-    ensures { (v roots : List ℕ) → Allocates (alloc_outcome r v roots) out.old result out.new v roots }
-{
-    match r {
-        Ok(a) => {
-            *out = allocation_words(a);
-            0
-        }
-        Err(q) => q.number(),
+    fn to_words(self) -> [u64; 7] {
+        let p = self.pointer;
+        let nursery = self.nursery;
+        let elder = self.elder;
+        let offset = value::unsigned(p.offset);
+        [
+            p.heap as u64,
+            p.base,
+            offset,
+            nursery.collections,
+            nursery.visits,
+            elder.collections,
+            elder.visits,
+        ]
     }
 }
 
@@ -130,7 +118,7 @@ pub extern "C" fn heap_alloc(
 ) -> u64
     ensures { Allocates (call (allocs roots.old (length scratch.old) (of_z w64 amount)) image.old) out.old result out.new image.new roots.new }
 {
-    answer_allocated(collector::alloc(image, roots, scratch, amount), out)
+    answer(collector::alloc(image, roots, scratch, amount), out)
 }
 
 #[unsafe(no_mangle)]
@@ -144,28 +132,18 @@ pub extern "C" fn heap_alloc_formed(
     requires { Image image.old (decode image.old) }
     ensures { Allocates (on_formed (allocs roots.old (length scratch.old) (of_z w64 amount)) image.old) out.old result out.new image.new roots.new }
 {
-    answer_allocated(collector::alloc_formed(image, roots, scratch, amount), out)
+    answer(collector::alloc_formed(image, roots, scratch, amount), out)
 }
 
 // ---- Read
 
 // The cell's three words.
-fn cell_words(v: Value) -> [u64; 3]
-    ensures { result ≡ cell_words (value_cell v ∷ []) }
-{
-    let w = value::encode(v);
-    [w.tag, w.payload, w.offset]
-}
+impl Words<3> for Value {
+    ghost words = { λ v. cell_words (value_cell v ∷ []) };
 
-fn answer_loaded(r: Loaded, out: &mut [u64; 3]) -> u64
-    ensures { Answers (words_of (loaded_cell r)) out.old result out.new }
-{
-    match r {
-        Loaded::Value(v) => {
-            *out = cell_words(v);
-            0
-        }
-        Loaded::Refused(q) => q,
+    fn to_words(self) -> [u64; 3] {
+        let w = value::encode(self);
+        [w.tag, w.payload, w.offset]
     }
 }
 
@@ -179,7 +157,7 @@ pub extern "C" fn heap_read(
 ) -> u64
     ensures { Answers (call (reads (pointer heap base (of_z w64 offset))) image.now).answer out.old result out.new }
 {
-    answer_loaded(access::read(image, Pointer { heap, base, offset }), out)
+    answer(access::read(image, Pointer { heap, base, offset }), out)
 }
 
 #[unsafe(no_mangle)]
@@ -193,22 +171,13 @@ pub extern "C" fn heap_read_formed(
     requires { Image image.now (decode image.now) }
     ensures { Answers (on_formed (reads (pointer heap base (of_z w64 offset))) image.now).answer out.old result out.new }
 {
-    answer_loaded(
+    answer(
         access::read_formed(image, Pointer { heap, base, offset }),
         out,
     )
 }
 
 // ---- Write
-
-fn stored_number(r: Stored) -> u64
-    ensures { (v : List ℕ) → Leaves (stored_outcome r v) result v }
-{
-    match r {
-        Stored::Done => 0,
-        Stored::Refused(q) => q,
-    }
-}
 
 #[unsafe(no_mangle)]
 pub extern "C" fn heap_write(
@@ -220,7 +189,7 @@ pub extern "C" fn heap_write(
 ) -> u64
     ensures { Leaves (call (writes (pointer heap base (of_z w64 offset)) cell.now) image.old) result image.new }
 {
-    stored_number(access::write(image, Pointer { heap, base, offset }, cell))
+    done_number(access::write(image, Pointer { heap, base, offset }, cell))
 }
 
 #[unsafe(no_mangle)]
@@ -234,20 +203,16 @@ pub extern "C" fn heap_write_formed(
     requires { Image image.old (decode image.old) }
     ensures { Leaves (on_formed (writes (pointer heap base (of_z w64 offset)) cell.now) image.old) result image.new }
 {
-    stored_number(access::write_formed(image, Pointer { heap, base, offset }, cell))
+    done_number(access::write_formed(image, Pointer { heap, base, offset }, cell))
 }
 
 // ---- Report
 
-fn answer_reported(r: Reported, out: &mut [u64; 11]) -> u64
-    ensures { (v : List ℕ) → Reports (report_outcome r v) out.old result out.new v }
-{
-    match r {
-        Reported::Taken(s) => {
-            *out = <[u64; 11]>::from(s);
-            0
-        }
-        Reported::Refused(q) => q,
+impl Words<11> for Statistics {
+    ghost words = { numbers };
+
+    fn to_words(self) -> [u64; 11] {
+        self.into()
     }
 }
 
@@ -255,7 +220,7 @@ fn answer_reported(r: Reported, out: &mut [u64; 11]) -> u64
 pub extern "C" fn heap_report(image: &mut [u64], out: &mut [u64; 11]) -> u64
     ensures { Reports (report_call image.old) out.old result out.new image.new }
 {
-    answer_reported(report::report_lent(image), out)
+    answer(report::report_lent(image), out)
 }
 
 #[unsafe(no_mangle)]
@@ -263,7 +228,7 @@ pub extern "C" fn heap_report_formed(image: &mut [u64], out: &mut [u64; 11]) -> 
     requires { Image image.old (decode image.old) }
     ensures { Reports (reported image.old (report (decode image.old))) out.old result out.new image.new }
 {
-    answer_reported(report::report_lent_formed(image), out)
+    answer(report::report_lent_formed(image), out)
 }
 
 // ---- Figure

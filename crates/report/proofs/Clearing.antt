@@ -24,10 +24,10 @@ use Rattle.fields.proofs.Parts.{most-is}
 use Rattle.std.proofs.Common.{Result, Ok, Err}
 use Rattle.question.specs.Question.{number, number_answer}
 use Rattle.question.specs.declared.Question.{Question}
+use Rattle.question.specs.declared.Question.TheVariants.{Bound}
 use Rattle.elder.specs.Steps.{Collects, collect_step}
 use Rattle.report.specs.Numbers.{numbers, report_outcome}
 use Rattle.report.specs.declared.Statistics.{Statistics}
-use Rattle.report.specs.declared.Reported.TheVariants.{Taken, Refused}
 
 -- the nursery's
 
@@ -76,7 +76,7 @@ module _ {w : List ℕ} (s : Statistics) (r : Reads (λ h. statistics h) w (numb
   unfolding statistics numbers
   young-is = ap (λ (l : List ℕ). get_or l 0 0) (r.reads _ i)
 
-  pub young-full : 4294967295 ≤ s.nursery.collections → asked ≡ report_outcome (Refused 11) w
+  pub young-full : 4294967295 ≤ s.nursery.collections → asked ≡ report_outcome (Err Bound) w
   unfolding report collect_young reported report_outcome
   young-full k = rw (young-is, le-ltb s.nursery.collections most (rw most-is k))
 
@@ -92,10 +92,10 @@ module _ {w : List ℕ} (s : Statistics) (r : Reads (λ h. statistics h) w (numb
       unfolding with_old
       empty-asks = let j = (left c i n e).image in rw (image-decode j) (j, (young-small, omega (arith, i.fit.young.proms)))
 
-      pub report-done : {x : List ℕ} → Turns (on_young (λ y. emptied y 0)) v x → asked ≡ report_outcome (Taken s) x
+      pub report-done : {x : List ℕ} → Turns (on_young (λ y. emptied y 0)) v x → asked ≡ report_outcome (Ok s) x
       unfolding report reported report_outcome with_old with_young
       report-done t = let l = left c i n e in rw (emptied-young, l.is) (λ k. record { answer = ok (r.reads _ i k); image = sym (t.turns _ l.image).is k; roots = [] })
 
-    pub report-refused : (q : Question) → a ≡ Err q → asked ≡ report_outcome (Refused (number q)) v
+    pub report-refused : (q : Question) → a ≡ Err q → asked ≡ report_outcome (Err q) v
     unfolding report reported report_outcome
     report-refused q e = rw (emptied-young, refused c i q e, c.kept q e)

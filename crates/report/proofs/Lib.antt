@@ -1,3 +1,4 @@
 pub mod Taking
 pub mod Clearing
 pub mod Filling
+pub mod Doors

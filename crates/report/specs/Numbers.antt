@@ -1,12 +1,12 @@
 -- The report's numbers as document 01 lists them, and its answers.
-use Rattle.std.specs.Prelude.{◌≡◌, List, [], ◌∷◌, ℕ, zero, suc, ◌<◌}
-use Rattle.model.specs.Res.{Res, ok, refuse}
+use Rattle.std.specs.Prelude.{◌≡◌, List, [], ◌∷◌, ℕ, Result, Err}
+use Rattle.model.specs.Res.{Res}
 use Rattle.model.specs.Calls.{Outcome}
+use Rattle.question.specs.Question.{answer}
+use Rattle.question.specs.declared.Question.{Question}
 use Rattle.report.specs.declared.Nursery.{Nursery}
 use Rattle.report.specs.declared.Elder.{Elder}
 use Rattle.report.specs.declared.Statistics.{Statistics}
-use Rattle.report.specs.declared.Reported.{Reported}
-use Rattle.report.specs.declared.Reported.TheVariants.{Taken, Refused}
 
 unfoldable pub young_numbers : Nursery → List ℕ
 young_numbers y = y.collections ∷ y.allocations ∷ y.cells ∷ y.references ∷ y.free ∷ y.promotions ∷ []
@@ -20,26 +20,14 @@ numbers s =
     let e = s.elder in
     y.collections ∷ y.allocations ∷ y.cells ∷ y.references ∷ y.free ∷ y.promotions ∷ e.collections ∷ e.allocations ∷ e.cells ∷ e.references ∷ s.leak ∷ []
 
-unfoldable pub report_outcome : Reported → List ℕ → Outcome
-report_outcome (Taken s) v = record { answer = ok (numbers s); image = v; roots = [] }
-report_outcome (Refused q) v = record { answer = refuse q; image = v; roots = [] }
+unfoldable pub report_outcome : Result Statistics Question → List ℕ → Outcome
+report_outcome r v = record { answer = answer numbers r; image = v; roots = [] }
 
--- what is answered through a record that the caller lends, and what the record then holds
-
-unfoldable pub question_of : Reported → ℕ
-question_of (Taken s) = 0
-question_of (Refused q) = q
-
-unfoldable pub record_of : Reported → Statistics → Statistics
-record_of (Taken s) old = s
-record_of (Refused q) old = old
-
--- the answer of a number and a record
-unfoldable pub record_answer : ℕ → Statistics → Res (List ℕ)
-record_answer zero s = ok (numbers s)
-record_answer (suc q) s = refuse (suc q)
+-- what is answered through a record that the caller lends
+unfoldable pub record_answer : Result (Unit {0}) Question → Statistics → Res (List ℕ)
+record_answer r s = answer (λ u. numbers s) r
 
 -- the report is in the record, or the record is as it was
-pub record Fills (o : Outcome) (old : Statistics) (q : ℕ) (new : Statistics) (v : List ℕ) : Type 0 where
-  pub outcome : o ≡ record { answer = record_answer q new; image = v; roots = [] }
-  pub kept : 0 < q → new ≡ old
+pub record Fills (o : Outcome) (old : Statistics) (r : Result (Unit {0}) Question) (new : Statistics) (v : List ℕ) : Type 0 where
+  pub outcome : o ≡ record { answer = record_answer r new; image = v; roots = [] }
+  pub kept : (q : Question) → r ≡ Err q → new ≡ old

@@ -10,10 +10,11 @@ ghost use Rattle.model.specs.Collector.{statistics, report};
 ghost use Rattle.model.specs.Calls.{reported, report_call};
 ghost use Rattle.theorems.specs.Fit.{Image};
 ghost use Rattle.fields.specs.Fields.{Reads, bar_of};
-ghost use Rattle.report.specs.Numbers.{young_numbers, old_numbers, numbers, report_outcome, question_of, record_of, record_answer, Fills};
+ghost use Rattle.report.specs.Numbers.{young_numbers, old_numbers, numbers, report_outcome, Fills};
 
 use image::counts::MOST;
 use layout::places;
+use question::Question;
 
 // References are the sum of a barrier's counts, free what is left of the cells.
 #[derive(Clone, Copy, Default)]
@@ -39,13 +40,6 @@ pub struct Statistics {
     pub nursery: Nursery,
     pub elder: Elder,
     pub leak: u64,
-}
-
-// Refused has the number of the question that got a no.
-#[derive(Clone, Copy)]
-pub enum Reported {
-    Taken(Statistics),
-    Refused(u64),
 }
 
 // The numbers in their order.
@@ -151,100 +145,59 @@ fn take_numbers(image: &[u64]) -> Statistics
 // ---- The report
 
 // The nursery's counter is asked first, then the elder's, then the counts.
-pub fn report_formed(image: &mut [u64]) -> Reported
+pub fn report_formed(image: &mut [u64]) -> Result<Statistics, Question>
     requires { Image image.old (decode image.old) }
     ensures { reported image.old (report (decode image.old)) ≡ report_outcome result image.new }
 {
     let s = take_numbers(image);
     let collections = s.nursery.collections;
     if MOST <= collections {
-        return Reported::Refused(11);
+        return Err(Question::Bound);
     }
-    match elder::collect_all(image) {
-        Ok(_) => {
-            fields::empty_nursery(image, 0);
-            Reported::Taken(s)
-        }
-        Err(asked) => Reported::Refused(asked.number()),
-    }
+    elder::collect_all(image)?;
+    fields::empty_nursery(image, 0);
+    Ok(s)
 }
 
-pub fn report(image: &mut [u64]) -> Reported
+pub fn report(image: &mut [u64]) -> Result<Statistics, Question>
     ensures { report_call image.old ≡ report_outcome result image.new }
 {
-    match image::check(image) {
-        Ok(()) => report_formed(image),
-        Err(q) => Reported::Refused(q.number()),
-    }
+    image::check(image)?;
+    report_formed(image)
 }
 
 // ---- Into a record that the caller lends
 
-// The numbers and 0, or those that were there and the question's number.
-#[derive(Clone, Copy)]
-struct Filled {
-    question: u64,
-    statistics: Statistics,
-}
-
-fn fill(r: Reported, old: Statistics) -> Filled
-    ensures { (result.question ≡ question_of r) × (result.statistics ≡ record_of r old) }
-{
-    match r {
-        Reported::Taken(s) => Filled {
-            question: 0,
-            statistics: s,
-        },
-        Reported::Refused(q) => Filled {
-            question: q,
-            statistics: old,
-        },
-    }
-}
-
-// Answers 0, or the number of the question that got a no: then the record stays as it was.
-pub fn report_into(image: &mut [u64], lent: &mut Statistics) -> u64
-    ensures { Fills (report_call image.old) lent.old result lent.new image.new }
-{
-    let f = fill(report(image), *lent);
-    *lent = f.statistics;
-    f.question
-}
-
-pub fn report_into_formed(image: &mut [u64], lent: &mut Statistics) -> u64
+// A refusal leaves the record as it was.
+pub fn report_into_formed(image: &mut [u64], lent: &mut Statistics) -> Result<(), Question>
     requires { Image image.old (decode image.old) }
     ensures { Fills (reported image.old (report (decode image.old))) lent.old result lent.new image.new }
 {
-    let f = fill(report_formed(image), *lent);
-    *lent = f.statistics;
-    f.question
+    *lent = report_formed(image)?;
+    Ok(())
 }
 
-// The answer of a number and a record.
-fn answered(q: u64, s: Statistics) -> Reported
-    ensures { (v : List ℕ) → report_outcome result v ≡ record { answer = record_answer q s; image = v; roots = [] } }
+pub fn report_into(image: &mut [u64], lent: &mut Statistics) -> Result<(), Question>
+    ensures { Fills (report_call image.old) lent.old result lent.new image.new }
 {
-    if q == 0 {
-        return Reported::Taken(s);
-    }
-    Reported::Refused(q)
-}
-
-// `report` through a record that is lent: what runs for C.
-pub fn report_lent(image: &mut [u64]) -> Reported
-    ensures { report_call image.old ≡ report_outcome result image.new }
-{
-    let mut s = Statistics::default();
-    let q = report_into(image, &mut s);
-    answered(q, s)
+    image::check(image)?;
+    report_into_formed(image, lent)
 }
 
 // `report_formed` through a record that is lent: what the program runs.
-pub fn report_lent_formed(image: &mut [u64]) -> Reported
+pub fn report_lent_formed(image: &mut [u64]) -> Result<Statistics, Question>
     requires { Image image.old (decode image.old) }
     ensures { reported image.old (report (decode image.old)) ≡ report_outcome result image.new }
 {
     let mut s = Statistics::default();
-    let q = report_into_formed(image, &mut s);
-    answered(q, s)
+    report_into_formed(image, &mut s)?;
+    Ok(s)
+}
+
+// `report` through a record that is lent: what runs for C.
+pub fn report_lent(image: &mut [u64]) -> Result<Statistics, Question>
+    ensures { report_call image.old ≡ report_outcome result image.new }
+{
+    image::check(image)?; // 1, then 2
+    report_lent_formed(image)
 }

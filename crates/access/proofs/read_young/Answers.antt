@@ -6,6 +6,7 @@ use mir.ValLaws.{to_z-of_z}
 use Rattle.model.specs.Image.{decode}
 use Rattle.model.specs.Collector.{young_at}
 use Rattle.trace.specs.Words.{pointer}
+use Rattle.question.proofs.Passing.{refused_as}
 use Rattle.access.specs.Access.{place_answer}
 use Rattle.access.proofs.Answers.{young-refused, young-loaded, young-inside}
 use Rattle.access.proofs.read_young.Goals as goal
@@ -18,11 +19,12 @@ found c =
 pub young_value-requires : goal.young_value-requires
 young_value-requires c = record {
   image = search rules;
-  i_bound = young-inside _ _ _ (found (goal.at.young_value-requires c).After-index) c.in-Ok.is;
+  i_bound = young-inside _ _ _ (found (goal.at.young_value-requires c).After-index) c.in_ok-i.was;
 }
 
-pub returns-in-Ok : goal.returns-in-Ok
-returns-in-Ok c = young-loaded _ _ _ (found (goal.at.returns-in-Ok c).After-index) _ _ c.in-Ok.is c.young_value.ensures
+pub returns : goal.returns
+returns c = young-loaded _ _ _ (found (goal.at.returns c).After-index) _ _ c.in_ok-i.was c.young_value.ensures
 
-pub returns-in-Err : goal.returns-in-Err
-returns-in-Err c = young-refused _ _ _ (found (goal.at.returns-in-Err c).After-index) _ c.in-Err.is c.number.ensures
+pub returns-in_err-i : goal.returns-in_err-i
+returns-in_err-i c =
+    rw (refused_as c.from_residual.result _ c.from_residual.ensures.1) (young-refused _ _ _ (found (goal.at.returns-in_err-i c).After-index) _ c.in_err-i.was)

@@ -5,7 +5,7 @@ use mathlib.Core.Bool.{true}
 use mir.Syntax.{w64}
 use mir.ValLaws.{to_z-of_z}
 use Rattle.model.specs.Calls.{value_good, write_on, left}
-use Rattle.access.specs.Access.{stored_outcome}
+use Rattle.image.specs.Answers.{made_outcome}
 use Rattle.access.proofs.Writes.{formed-written, formed-other}
 use Rattle.access.proofs.write_formed.Goals as goal
 use Rattle.access.proofs.write_formed.Goals.{Else-not-value_ok}
@@ -14,7 +14,7 @@ good : (c : Else-not-value_ok) → value_good c.args.cell.now ≡ true
 good c = sym c.value_ok.ensures ∙ c.if-not-value_ok.false
 
 pub returns-then-not-value_ok : goal.returns-then-not-value_ok
-unfolding left write_on stored_outcome
+unfolding left write_on made_outcome
 returns-then-not-value_ok c = rw (sym c.value_ok.ensures ∙ c.if-not-value_ok.true)
 
 pub write_young-requires : goal.write_young-requires

@@ -5,6 +5,7 @@ use mir.ValLaws.{to_z-of_z}
 use Rattle.model.specs.Image.{decode}
 use Rattle.model.specs.Collector.{read}
 use Rattle.trace.specs.Words.{pointer}
+use Rattle.question.proofs.Passing.{refused_as}
 use Rattle.access.specs.Access.{loaded_cell}
 use Rattle.access.proofs.Writes.{left-refused, old-read, old-written, old-unread}
 use Rattle.access.proofs.write_old.Goals as goal
@@ -21,7 +22,7 @@ word c =
 pub store_old-requires : goal.store_old-requires
 unfolding loaded_cell
 store_old-requires c =
-    let t = old-read c.args.image.now c.args.base (of_z w64 c.args.offset) (sym (was_read (goal.at.store_old-requires c).After-read_old) ∙ ap loaded_cell c.in-Value.is) in
+    let t = old-read c.args.image.now c.args.base (of_z w64 c.args.offset) (sym (was_read (goal.at.store_old-requires c).After-read_old) ∙ ap loaded_cell c.in_ok-old.was) in
     record {
       image = c.requires.image;
       offset_in_bounds = rw (word c) t.0;
@@ -29,13 +30,14 @@ store_old-requires c =
       cell_value = c.requires.cell_value;
     }
 
-pub returns-in-Value : goal.returns-in-Value
+pub returns : goal.returns
 unfolding loaded_cell
-returns-in-Value c =
-    let t = old-read c.args.image.now c.args.base (of_z w64 c.args.offset) (sym (was_read (goal.at.returns-in-Value c).After-read_old) ∙ ap loaded_cell c.in-Value.is) in
-    rw (word (goal.at.returns-in-Value c).After-unsigned, old-written c.args.image.now c.args.base (of_z w64 c.args.offset) _ t.0) at c.store_old.ensures
+returns c =
+    let t = old-read c.args.image.now c.args.base (of_z w64 c.args.offset) (sym (was_read (goal.at.returns c).After-read_old) ∙ ap loaded_cell c.in_ok-old.was) in
+    rw (word (goal.at.returns c).After-unsigned, old-written c.args.image.now c.args.base (of_z w64 c.args.offset) _ t.0) at c.store_old.ensures
 
-pub returns-in-Refused : goal.returns-in-Refused
+pub returns-in_err-old : goal.returns-in_err-old
 unfolding loaded_cell
-returns-in-Refused c =
-    left-refused _ (old-unread c.args.image.now c.args.base (of_z w64 c.args.offset) _ _ (sym (was_read (goal.at.returns-in-Refused c).After-read_old) ∙ ap loaded_cell c.in-Refused.is)) refl
+returns-in_err-old c =
+    rw (refused_as c.from_residual.result _ c.from_residual.ensures.1)
+    (left-refused _ (old-unread c.args.image.now c.args.base (of_z w64 c.args.offset) _ _ (sym (was_read (goal.at.returns-in_err-old c).After-read_old) ∙ ap loaded_cell c.in_err-old.was)) refl)

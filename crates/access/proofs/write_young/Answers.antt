@@ -5,6 +5,7 @@ use mir.ValLaws.{to_z-of_z}
 use Rattle.model.specs.Image.{decode}
 use Rattle.model.specs.Collector.{young_at}
 use Rattle.trace.specs.Words.{pointer}
+use Rattle.question.proofs.Passing.{refused_as}
 use Rattle.access.specs.Access.{place_answer}
 use Rattle.access.proofs.Answers.{young-inside}
 use Rattle.access.proofs.Writes.{left-refused, young-written, young-nowhere}
@@ -18,14 +19,15 @@ found c =
 pub store_young-requires : goal.store_young-requires
 store_young-requires c = record {
   image = c.requires.image;
-  i_bound = young-inside _ _ _ (found (goal.at.store_young-requires c).After-index) c.in-Ok.is;
+  i_bound = young-inside _ _ _ (found (goal.at.store_young-requires c).After-index) c.in_ok-i.was;
   cell_value = c.requires.cell_value;
 }
 
-pub returns-in-Ok : goal.returns-in-Ok
-returns-in-Ok c =
-    rw (young-written c.args.image.now c.args.base (of_z w64 c.args.offset) _ _ (sym (found (goal.at.returns-in-Ok c).After-index) ∙ ap place_answer c.in-Ok.is)) at c.store_young.ensures
+pub returns : goal.returns
+returns c =
+    rw (young-written c.args.image.now c.args.base (of_z w64 c.args.offset) _ _ (sym (found (goal.at.returns c).After-index) ∙ ap place_answer c.in_ok-i.was)) at c.store_young.ensures
 
-pub returns-in-Err : goal.returns-in-Err
-returns-in-Err c =
-    rw c.number.ensures (left-refused _ (young-nowhere c.args.image.now c.args.base (of_z w64 c.args.offset) _ _ (sym (found (goal.at.returns-in-Err c).After-index) ∙ ap place_answer c.in-Err.is)) refl)
+pub returns-in_err-i : goal.returns-in_err-i
+returns-in_err-i c =
+    rw (refused_as c.from_residual.result _ c.from_residual.ensures.1)
+    (left-refused _ (young-nowhere c.args.image.now c.args.base (of_z w64 c.args.offset) _ _ (sym (found (goal.at.returns-in_err-i c).After-index) ∙ ap place_answer c.in_err-i.was)) refl)

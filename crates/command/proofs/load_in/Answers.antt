@@ -25,14 +25,14 @@ returns-then-image-eq0 c =
 pub read_formed-requires : goal.read_formed-requires
 read_formed-requires c = c.requires.held.formed (there (goal.at.read_formed-requires c).After-target_of)
 
-pub returns-in-Value : goal.returns-in-Value
-returns-in-Value c =
-    load-done _ _ _ c.requires.held c.requires.register_bound.2 (there (goal.at.returns-in-Value c).After-target_of) c.get.result c.get.ensures c.target_of.result (aim (goal.at.returns-in-Value c).After-target_of) c.in-Ok.is c.read_formed.result c.read_formed.ensures c.in-Value.is (refl, c.set.ensures)
+pub returns-in-Ok-read_formed : goal.returns-in-Ok-read_formed
+returns-in-Ok-read_formed c =
+    load-done _ _ _ c.requires.held c.requires.register_bound.2 (there (goal.at.returns-in-Ok-read_formed c).After-target_of) c.get.result c.get.ensures c.target_of.result (aim (goal.at.returns-in-Ok-read_formed c).After-target_of) c.in-Ok.is c.read_formed.result c.read_formed.ensures c.in-Ok-read_formed.is (refl, c.set.ensures)
 
-pub returns-in-Refused : goal.returns-in-Refused
-returns-in-Refused c =
-    load-refused _ _ _ c.requires.held c.requires.register_bound.2 (there (goal.at.returns-in-Refused c).After-target_of) c.get.result c.get.ensures c.target_of.result (aim (goal.at.returns-in-Refused c).After-target_of) c.in-Ok.is c.read_formed.result c.read_formed.ensures c.in-Refused.is (refl, refl)
+pub returns-in-Err-read_formed : goal.returns-in-Err-read_formed
+returns-in-Err-read_formed c =
+    load-refused _ _ _ c.requires.held c.requires.register_bound.2 (there (goal.at.returns-in-Err-read_formed c).After-target_of) c.get.result c.get.ensures c.target_of.result (aim (goal.at.returns-in-Err-read_formed c).After-target_of) c.in-Ok.is c.read_formed.result c.read_formed.ensures c.in-Err-read_formed.is c.number.ensures (refl, refl)
 
 pub returns-in-Err : goal.returns-in-Err
 returns-in-Err c =
-    load-nowhere _ _ _ c.requires.held c.requires.register_bound.2 (there (goal.at.returns-in-Err c).After-target_of) c.get.result c.get.ensures c.target_of.result (aim (goal.at.returns-in-Err c).After-target_of) c.in-Err.is c.number.ensures (refl, refl)
+    load-nowhere _ _ _ c.requires.held c.requires.register_bound.2 (there (goal.at.returns-in-Err c).After-target_of) c.get.result c.get.ensures c.target_of.result (aim (goal.at.returns-in-Err c).After-target_of) c.in-Err.is c.number-in-Err.ensures (refl, refl)

@@ -9,10 +9,10 @@ returns-then-image-eq0 c r g = report-heapless c.requires.held g c.if-image-eq0.
 pub report_lent_formed-requires : goal.report_lent_formed-requires
 report_lent_formed-requires c = c.requires.held.formed (omega (arith, c.if-image-eq0.false))
 
-pub returns-in-Taken : goal.returns-in-Taken
-returns-in-Taken c r g =
-    report-acts c.requires.held (omega (arith, c.if-image-eq0.false)) g _ _ c.report_lent_formed.ensures c.in-Taken.is
+pub returns-in-Ok : goal.returns-in-Ok
+returns-in-Ok c r g =
+    report-acts c.requires.held (omega (arith, c.if-image-eq0.false)) g _ _ c.report_lent_formed.ensures c.in-Ok.is
 
-pub returns-in-Refused : goal.returns-in-Refused
-returns-in-Refused c r g =
-    report-refused c.requires.held (omega (arith, c.if-image-eq0.false)) g _ _ c.report_lent_formed.ensures c.in-Refused.is (refl, refl)
+pub returns-in-Err : goal.returns-in-Err
+returns-in-Err c r g =
+    report-refused c.requires.held (omega (arith, c.if-image-eq0.false)) g _ _ c.report_lent_formed.ensures c.in-Err.is c.number.ensures (refl, refl)

@@ -25,17 +25,17 @@ returns-then-image-eq0 c =
 pub write_formed-requires : goal.write_formed-requires
 write_formed-requires c = c.requires.held.formed (there (goal.at.write_formed-requires c).After-target_of)
 
-pub returns-in-Done : goal.returns-in-Done
-returns-in-Done c =
+pub returns-in-Ok-write_formed : goal.returns-in-Ok-write_formed
+returns-in-Ok-write_formed c =
     let u = c.get in
-    store-done _ _ _ c.requires.held c.requires.register_bound.2 (there (goal.at.returns-in-Done c).After-target_of) c.get-2.result c.get-2.ensures c.target_of.result (aim (goal.at.returns-in-Done c).After-target_of) u.result u.ensures c.in-Ok.is c.encode-w.ensures c.write_formed.result _ c.write_formed.ensures c.in-Done.is
+    store-done _ _ _ c.requires.held c.requires.register_bound.2 (there (goal.at.returns-in-Ok-write_formed c).After-target_of) c.get-2.result c.get-2.ensures c.target_of.result (aim (goal.at.returns-in-Ok-write_formed c).After-target_of) u.result u.ensures c.in-Ok.is c.encode-w.ensures c.write_formed.result _ c.write_formed.ensures c.in-Ok-write_formed.is
 
-pub returns-in-Refused : goal.returns-in-Refused
-returns-in-Refused c =
+pub returns-in-Err-write_formed : goal.returns-in-Err-write_formed
+returns-in-Err-write_formed c =
     let u = c.get in
-    store-refused _ _ _ c.requires.held c.requires.register_bound.2 (there (goal.at.returns-in-Refused c).After-target_of) c.get-2.result c.get-2.ensures c.target_of.result (aim (goal.at.returns-in-Refused c).After-target_of) u.result u.ensures c.in-Ok.is c.encode-w.ensures c.write_formed.result _ c.write_formed.ensures c.in-Refused.is (refl, refl)
+    store-refused _ _ _ c.requires.held c.requires.register_bound.2 (there (goal.at.returns-in-Err-write_formed c).After-target_of) c.get-2.result c.get-2.ensures c.target_of.result (aim (goal.at.returns-in-Err-write_formed c).After-target_of) u.result u.ensures c.in-Ok.is c.encode-w.ensures c.write_formed.result _ c.write_formed.ensures c.in-Err-write_formed.is c.number.ensures (refl, refl)
 
 pub returns-in-Err : goal.returns-in-Err
 returns-in-Err c =
     let u = c.get in
-    store-nowhere _ _ _ c.requires.held c.requires.register_bound.2 (there (goal.at.returns-in-Err c).After-target_of) c.get-2.result c.get-2.ensures c.target_of.result (aim (goal.at.returns-in-Err c).After-target_of) u.result u.ensures c.in-Err.is c.number.ensures (refl, refl)
+    store-nowhere _ _ _ c.requires.held c.requires.register_bound.2 (there (goal.at.returns-in-Err c).After-target_of) c.get-2.result c.get-2.ensures c.target_of.result (aim (goal.at.returns-in-Err c).After-target_of) u.result u.ensures c.in-Err.is c.number-in-Err.ensures (refl, refl)

@@ -3,4 +3,4 @@ use Rattle.heap_c.proofs.Replying.{leaves-as}
 use Rattle.heap_c.proofs.heap_new.Goals as goal
 
 pub returns : goal.returns
-returns c = leaves-as (sym c.fresh.ensures) (c.made_number.ensures _)
+returns c = leaves-as (sym c.fresh.ensures) (c.done_number.ensures _)

@@ -8,4 +8,4 @@ use Rattle.heap_c.proofs.heap_write.Goals as goal
 pub returns : goal.returns
 returns c =
     let given = as-given c.args.offset c.ranges.offset (λ x. call (writes (pointer c.args.heap c.args.base (of_z w64 x)) c.args.cell.now) c.args.image.now) c.write.ensures in
-    leaves-as given (c.stored_number.ensures _)
+    leaves-as given (c.done_number.ensures _)

@@ -10,4 +10,4 @@ pub returns : goal.returns
 returns c =
     let w = c.args.image.now in
     let given = as-given c.args.offset c.ranges.offset (λ x. left w (write_on (decode w) (pointer c.args.heap c.args.base (of_z w64 x)) c.args.cell.now)) c.write_formed.ensures in
-    leaves-as given (c.stored_number.ensures _)
+    leaves-as given (c.done_number.ensures _)

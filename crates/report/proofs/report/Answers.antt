@@ -1,18 +1,15 @@
-use mathlib.Core.Path.{sym, ap, ◌∙◌}
-use Rattle.model.specs.Collector.{report}
-use Rattle.model.specs.Calls.{reported, report_call}
-use Rattle.image.proofs.Opened.{formed-image, formed-opened, refused-opened}
-use Rattle.report.specs.Numbers.{report_outcome}
+use mathlib.Core.Path.{◌∙◌}
+use Rattle.question.proofs.Passing.{refused_as}
+use Rattle.image.proofs.Opened.{formed-image}
+use Rattle.report.proofs.Doors.{as-formed, unformed}
 use Rattle.report.proofs.report.Goals as goal
 
 pub report_formed-requires : goal.report_formed-requires
-report_formed-requires c = formed-image _ c.check.ensures c.in-Ok.is
+report_formed-requires c = formed-image _ c.check.ensures c.in_ok-check.was
 
-pub returns-in-Ok : goal.returns-in-Ok
-unfolding report_call
-returns-in-Ok c =
-    ap (reported _) (sym (formed-opened _ c.check.ensures report c.in-Ok.is)) ∙ c.report_formed.ensures
+pub returns : goal.returns
+returns c = as-formed _ c.check.ensures c.in_ok-check.was ∙ c.report_formed.ensures
 
-pub returns-in-Err : goal.returns-in-Err
-unfolding report_call reported report_outcome
-returns-in-Err c = rw c.number.ensures (ap (reported _) (sym (refused-opened _ c.check.ensures report _ c.in-Err.is)))
+pub returns-in_err-check : goal.returns-in_err-check
+returns-in_err-check c =
+    rw (refused_as c.from_residual.result _ c.from_residual.ensures.1) (unformed _ c.check.ensures _ c.in_err-check.was)

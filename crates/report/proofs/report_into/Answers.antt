@@ -1,5 +1,16 @@
-use Rattle.report.proofs.Filling.{call-positive, fills}
+use Rattle.question.proofs.Passing.{refused_as}
+use Rattle.image.proofs.Opened.{formed-image}
+use Rattle.report.proofs.Doors.{as-formed, unformed}
+use Rattle.report.proofs.Filling.{fills-as, not-filled}
 use Rattle.report.proofs.report_into.Goals as goal
+use Rattle.std.proofs.Common.{refl}
+
+pub report_into_formed-requires : goal.report_into_formed-requires
+report_into_formed-requires c = formed-image _ c.check.ensures c.in_ok-check.was
 
 pub returns : goal.returns
-returns c = fills c.report.result _ c.report.ensures (call-positive _) _ c.fill-f.ensures
+returns c = fills-as (as-formed _ c.check.ensures c.in_ok-check.was) c.report_into_formed.ensures
+
+pub returns-in_err-check : goal.returns-in_err-check
+returns-in_err-check c =
+    rw (refused_as c.from_residual.result _ c.from_residual.ensures.1) (not-filled (unformed _ c.check.ensures _ c.in_err-check.was) refl)

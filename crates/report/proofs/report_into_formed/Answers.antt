@@ -1,5 +1,10 @@
-use Rattle.report.proofs.Filling.{formed-positive, fills}
+use Rattle.question.proofs.Passing.{refused_as}
+use Rattle.report.proofs.Filling.{filled, not-filled}
 use Rattle.report.proofs.report_into_formed.Goals as goal
 
 pub returns : goal.returns
-returns c = fills c.report_formed.result _ c.report_formed.ensures (formed-positive c.requires) _ c.fill-f.ensures
+returns c = filled c.report_formed.ensures c.in_ok-lent.was
+
+pub returns-in_err-lent : goal.returns-in_err-lent
+returns-in_err-lent c =
+    rw (refused_as c.from_residual.result _ c.from_residual.ensures.1) (not-filled c.report_formed.ensures c.in_err-lent.was)

@@ -2,6 +2,7 @@ use mathlib.Core.Path.{◌≡◌, sym, ap, ◌∙◌}
 use mathlib.Core.Bool.{true}
 use Rattle.model.specs.Heap.{Heap}
 use Rattle.value.specs.Value.{value_cell}
+use Rattle.barrier.specs.Counts.{step_of}
 use Rattle.access.specs.Counting.{recounted, on_counts}
 use Rattle.access.proofs.Counted.{gone-counted, only-in, only_out, neither, leaves-as}
 use Rattle.access.proofs.counts.recount.Goals as goal
@@ -17,12 +18,14 @@ pub returns-then-crosses-2 : goal.returns-then-crosses-2
 returns-then-crosses-2 c = leaves-as (same (goal.at.returns-then-crosses-2 c).After-counted_out-was _) c.count_both.ensures
 
 pub returns-then-crosses : goal.returns-then-crosses
+unfolding step_of
 returns-then-crosses c =
-    leaves-as (only_out _ _ _ _ (sym c.crosses-then-crosses.ensures ∙ c.if-crosses-2.false) ∙ same (goal.at.returns-then-crosses c).After-counted_out-was _) c.count_out_alone.ensures
+    leaves-as (only_out _ _ _ _ (sym c.crosses-then-crosses.ensures ∙ c.if-crosses-2.false) ∙ same (goal.at.returns-then-crosses c).After-counted_out-was _) c.count_alone.ensures
 
 pub returns-then-crosses-3 : goal.returns-then-crosses-3
+unfolding step_of
 returns-then-crosses-3 c =
-    leaves-as (only-in _ _ _ _ (sym c.crosses.ensures ∙ c.if-crosses.false) ∙ same (goal.at.returns-then-crosses-3 c).After-counted_out-was _) c.count_in_alone.ensures
+    leaves-as (only-in _ _ _ _ (sym c.crosses.ensures ∙ c.if-crosses.false) ∙ same (goal.at.returns-then-crosses-3 c).After-counted_out-was _) c.count_alone-then-crosses-3.ensures
 
 pub returns : goal.returns
 returns c =

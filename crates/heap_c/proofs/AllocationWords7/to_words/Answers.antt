@@ -4,9 +4,9 @@ use mir.Syntax.{w64}
 use mir.Val.{of_z}
 use mir.ValLaws.{to_z-of_z}
 use Rattle.heap_c.proofs.Replying.{words-in}
-use Rattle.heap_c.proofs.allocation_words.Goals as goal
+use Rattle.heap_c.proofs.AllocationWords7.to_words.Goals as goal
 
 pub returns : goal.returns
 returns c =
-    let a = c.args.a in
+    let a = c.args.self in
     words-in a (c.unsigned-offset.ensures ∙ ap (of_z w64) (to_z-of_z w64 a.pointer.offset (search rules)))
