@@ -70,10 +70,10 @@ fn write_more(rt: &HostRuntime, bytes: &[u8], len: &mut usize) -> io::Result<()>
 
 // The file's listing, by the bufferful; how many bytes were handed on, also when a write failed.
 fn print_all(rt: &HostRuntime, file: &[u8], len: &mut usize) -> io::Result<()>
-    requires file_in_bounds { length file.now ≤ longest_file + 1 }
-    requires len_zero { len.old ≡ 0 }
+    requires { length file.now ≤ longest_file + 1 }
     ensures { MatchResult result (λ _. Prints file.now len.new true) (λ _. Prints file.now len.new false) }
 {
+    *len = 0;
     let mut image = [0u64; IMAGE];
     let mut scratch = [0u64; SCRATCH];
     let mut out = [0u8; OUT];

@@ -1,5 +1,4 @@
 use Rattle.heap.proofs.Printing.{taken}
-use mathlib.Core.Path.{refl}
 use native.Mathlib.Omega.{arith}
 use lib.Seq.{length-take-le}
 use Rattle.model.specs.Listing.{longest_file}
@@ -17,7 +16,5 @@ pub print_all-requires : goal.print_all-requires
 unfolding longest_file
 print_all-requires c =
     let stops = c.in-Ok.ensures in
-    let call = c.read_all in record {
-      file_in_bounds = omega (arith, stops.within, call.auto.file, length-take-le c.in-Ok.input.len call.new.file stops.within);
-      len_zero = refl;
-    }
+    let call = c.read_all in
+    omega (arith, stops.within, call.auto.file, length-take-le c.in-Ok.input.len call.new.file stops.within)

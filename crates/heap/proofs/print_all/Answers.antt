@@ -1,3 +1,4 @@
+use mathlib.Core.Path.{refl}
 use native.Mathlib.Omega.{arith}
 use Rattle.model.specs.Image.{image_length}
 use Rattle.model.specs.Calls.{scratch_length}
@@ -8,7 +9,7 @@ use borrow.Author.Rules.{rules}
 use Rattle.heap.proofs.print_all.Goals as goal
 
 pub loop-run-init : goal.loop-run-init
-loop-run-init c = (print-none (c.begin-run.ensures _ _) c.requires.len_zero, search rules, search rules, search rules)
+loop-run-init c = (print-none (c.begin-run.ensures _ _) refl, search rules, search rules, search rules)
 
 pub fill-used-requires : goal.fill-used-requires
 unfolding program_words program_scratch image_length scratch_length
@@ -23,7 +24,7 @@ slice_bounds-write_more-end c = search (taken, rules)
 
 pub write_more-requires : goal.write_more-requires
 write_more-requires c =
-    print-fits c.loop-run.invariant.0 c.loop-run-test.true (search rules) c.fill-used.ensures c.requires.file_in_bounds
+    print-fits c.loop-run.invariant.0 c.loop-run-test.true (search rules) c.fill-used.ensures c.requires
 
 pub returns-in_err-write_more : goal.returns-in_err-write_more
 returns-in_err-write_more c =
