@@ -18,6 +18,7 @@ ghost use Rattle.command.specs.State.{holding, heapless, Held, Ready};
 ghost use Rattle.command.specs.Steps.{target_answer, target_in, is_new, Acts, Performs, made_answer, made_words};
 
 pub use answers::Answer;
+use image::sizes::Sizes;
 use question::Question;
 use reader::{Access, Command};
 use registers::Registers;
@@ -192,8 +193,9 @@ fn make(buffer: &mut [u64], n: u64, t: u64, s: u64, c: u64) -> Result<usize, Que
     if !is_bounded(n, t, s, c) {
         return Err(Question::Sizes);
     }
-    let words = image::words(n, t, s, c).unwrap() as usize;
-    image::fresh(&mut buffer[..words], n, t, s, c)?;
+    let z = Sizes { n, t, s, c };
+    let words = z.image_words().unwrap() as usize;
+    image::fresh(&mut buffer[..words], z)?;
     Ok(words)
 }
 

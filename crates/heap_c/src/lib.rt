@@ -26,6 +26,7 @@ ghost use Rattle.heap_c.specs.Replies.{words_of, allocation_words, figure_words,
 
 use collector::Allocation;
 use figure::Figure;
+use image::sizes::Sizes;
 use question::Question;
 use report::Statistics;
 use value::{Pointer, Value};
@@ -55,7 +56,7 @@ fn answer<T: Words<N>, const N: usize>(r: Result<T, Question>, out: &mut [u64; N
 pub extern "C" fn heap_words(n: u64, t: u64, s: u64, c: u64) -> u64
     ensures { result ≡ or_zero (in_bounds (sizes n t s c)) (image_length (sizes n t s c)) }
 {
-    image::words(n, t, s, c).unwrap_or(0)
+    Sizes { n, t, s, c }.image_words().unwrap_or(0)
 }
 
 // The words of scratch that r root cells want, 0 if a size or r is out of bounds.
@@ -63,7 +64,7 @@ pub extern "C" fn heap_words(n: u64, t: u64, s: u64, c: u64) -> u64
 pub extern "C" fn heap_scratch(n: u64, s: u64, c: u64, r: u64) -> u64
     ensures { result ≡ or_zero (in_bounds (sizes n 0 s c) && leb r 4096) (scratch_length (sizes n 0 s c) r) }
 {
-    image::scratch(n, s, c, r).unwrap_or(0)
+    Sizes { n, t: 0, s, c }.scratch_words(r).unwrap_or(0)
 }
 
 // ---- New
@@ -82,7 +83,7 @@ fn done_number(r: Result<(), Question>) -> u64
 pub extern "C" fn heap_new(image: &mut [u64], n: u64, t: u64, s: u64, c: u64) -> u64
     ensures { Leaves (new_call (sizes n t s c) image.old) result image.new }
 {
-    done_number(image::fresh(image, n, t, s, c))
+    done_number(image::fresh(image, Sizes { n, t, s, c }))
 }
 
 // ---- Alloc

@@ -40,16 +40,20 @@ split (suc k) (a ∷ b ∷ o ∷ w) c h r =
     rw (three, split k w (c - 1) (omega arith) (omega arith)) (and_assoc (valid_words a b o) (whole_cells (take (3 * k) w)) (all_at_most 0 (drop (3 * k) w)))
 
 module _ (k : ℕ) (w : List ℕ) (c : ℕ) (h : length w ≡ 3 * c) where
-  -- `k` cells, and the rest as the code takes it
-  pub packed-split : k ≤ c → packed_cells k w ≡ (whole_cells (take (3 * k) w) && all_at_most 0 (take (length w - 3 * k) (drop (3 * k) w)))
-  packed-split r = rw (take_all (length w - 3 * k) (drop (3 * k) w) (omega (arith, length-drop (3 * k) w))) (split k w c h r)
-
-  pub packed-over : c < k → packed_cells k w ≡ false
+  packed-over : c < k → packed_cells k w ≡ false
   packed-over r = go (packed_cells k w) refl
     where
       go : (t : Bool) → packed_cells k w ≡ t → t ≡ false
       go true e = absurd (omega (arith, packed-room k w e))
       go false e = refl
+
+  -- `k` cells, and the rest as the code takes it
+  pub packed-split : packed_cells k w ≡ (leb k c && whole_cells (take (3 * k) w) && all_at_most 0 (take (length w - 3 * k) (drop (3 * k) w)))
+  packed-split = go (leb k c) refl
+    where
+      go : (t : Bool) → leb k c ≡ t → packed_cells k w ≡ (t && whole_cells (take (3 * k) w) && all_at_most 0 (take (length w - 3 * k) (drop (3 * k) w)))
+      go true e = rw (take_all (length w - 3 * k) (drop (3 * k) w) (omega (arith, length-drop (3 * k) w))) (split k w c h (leb-true k c e))
+      go false e = packed-over (leb-false k c e)
 
 -- more than c cells do not fit, however many more
 pub packed-capped : (k : ℕ) (w : List ℕ) (c : ℕ) → length w ≡ 3 * c → packed_cells (min k (c + 1)) w ≡ packed_cells k w

@@ -2,13 +2,14 @@
 use mathlib.Core.Path.{◌≡◌, refl, sym, ◌∙◌}
 use mathlib.Core.Bool.{Bool, true, false, ◌&&◌}
 use mathlib.Core.List.{List, [], ◌∷◌}
-use Prim.Native.Nat.{ℕ, zero, suc, ◌+◌, ◌-◌, ◌≤◌, ◌<◌, min}
+use Prim.Native.Nat.{ℕ, zero, suc, ◌+◌, ◌-◌, ◌≤◌, ◌<◌, ◌*◌, ◌/◌, ◌%◌, min}
 use native.Mathlib.Numerals.{add-one, add-two, add-three}
 use native.Mathlib.Omega.{arith}
 use lib.Dec.{eqb, leb}
 use borrow.Author.Tests.{eqb-true, eqb-false, eq-eqb, ne_eqb, le-leb, lt-leb}
 use lib.ListN.{length, get_or, drop, length-drop, drop_of_length-le}
 use lib.Seq.{drop-cons}
+use Rattle.std.specs.Simd.{first_chunks}
 use Rattle.model.specs.Lists.{sum, all_at_most}
 use Rattle.model.specs.Records.{valid_words, whole_cells}
 use Rattle.model.specs.Barrier.{most}
@@ -17,30 +18,6 @@ use Rattle.model.specs.Image.{flagged}
 -- the word at i, and those behind it
 pub word_at : (w : List ℕ) (i : ℕ) → i < length w → drop i w ≡ get_or w i 0 ∷ drop (i + 1) w
 word_at w i h = rw add-one (drop-cons w i 0 h)
-
--- each word is at most m
-
-pub record Bounding (w : List ℕ) (goal : Bool) (m i : ℕ) : Type 0 where
-  pub within : i ≤ length w
-  pub is : all_at_most m (drop i w) ≡ goal
-
-pub most-begin : (w : List ℕ) (m : ℕ) → Bounding w (all_at_most m w) m 0
-most-begin w m = record { within = omega arith; is = refl }
-
-module _ {w : List ℕ} {goal : Bool} {m i : ℕ} (v : Bounding w goal m i) where
-  most_step : i < length w → (leb (get_or w i 0) m && all_at_most m (drop (i + 1) w)) ≡ goal
-  unfolding all_at_most
-  most_step h = rw (word_at w i h) at v.is
-
-  pub most-turn : i < length w → get_or w i 0 ≤ m → Bounding w goal m (i + 1)
-  most-turn h k = record { within = omega arith; is = rw (le-leb (get_or w i 0) m k) at (most_step h) }
-
-  pub most-stop : i < length w → m < get_or w i 0 → false ≡ goal
-  most-stop h k = rw (lt-leb (get_or w i 0) m k) at (most_step h)
-
-  pub most-done : length w ≤ i → true ≡ goal
-  unfolding all_at_most
-  most-done h = rw (drop_of_length-le w {i = i} h) at v.is
 
 -- a barrier's flag and its counts
 
@@ -61,47 +38,37 @@ flag-bad (suc (suc k)) cs a b = refl
 
 -- whole, valid cells
 
-same : (n i : ℕ) → i ≤ n → eqb i n ≡ eqb (n - i) 0
-same n i h = go (eqb i n) refl
-  where
-    go : (t : Bool) → eqb i n ≡ t → t ≡ eqb (n - i) 0
-    go true e = sym (eq-eqb (n - i) 0 (omega (arith, eqb-true i n e)))
-    go false e = let d : i ≡ n → ⊥ = eqb-false i n e in sym (ne_eqb (n - i) 0 (omega arith))
+-- the three words of one, and of each
+abbrev pub valid_cell : List ℕ → Bool
+valid_cell ws = valid_words (get_or ws 0 0) (get_or ws 1 0) (get_or ws 2 0)
 
-short : (l : List ℕ) → length l < 3 → whole_cells l ≡ eqb (length l) 0
+abbrev pub valid_cells : List (List ℕ) → Bool
+valid_cells [] = true
+valid_cells (ws ∷ rest) = valid_cell ws && valid_cells rest
+
+short : (w : List ℕ) → length w < 3 → whole_cells w ≡ (eqb (length w) 0 && true)
 unfolding whole_cells
 short [] h = refl
 short (a ∷ []) h = refl
 short (a ∷ b ∷ []) h = refl
-short (a ∷ b ∷ o ∷ l) h = absurd (omega arith)
+short (a ∷ b ∷ o ∷ w) h = absurd (omega arith)
 
-pub record Cutting (w : List ℕ) (goal : Bool) (i : ℕ) : Type 0 where
-  pub within : i ≤ length w
-  pub is : whole_cells (drop i w) ≡ goal
+and-turned : (a b d : Bool) → (a && (b && d)) ≡ (b && (a && d))
+and-turned true b d = refl
+and-turned false true d = refl
+and-turned false false d = refl
 
-pub whole-begin : (w : List ℕ) → Cutting w (whole_cells w) 0
-whole-begin w = record { within = omega arith; is = refl }
+cut : (k r : ℕ) (w : List ℕ) → length w ≡ 3 * k + r → r < 3 → whole_cells w ≡ (eqb r 0 && valid_cells (first_chunks 3 k w))
+unfolding whole_cells
+cut zero r w h l = let e : length w ≡ r = omega arith in rw (← e) (short w (omega arith))
+cut (suc k) r [] h l = absurd (omega arith)
+cut (suc k) r (a ∷ []) h l = absurd (omega arith)
+cut (suc k) r (a ∷ b ∷ []) h l = absurd (omega arith)
+cut (suc k) r (a ∷ b ∷ o ∷ w) h l = rw (cut k r w (omega arith) l) (and-turned (valid_words a b o) (eqb r 0) (valid_cells (first_chunks 3 k w)))
 
-module _ {w : List ℕ} {goal : Bool} {i : ℕ} (v : Cutting w goal i) where
-  whole-step : 3 ≤ length w - i → (valid_words (get_or w i 0) (get_or w (i + 1) 0) (get_or w (i + 2) 0) && whole_cells (drop (i + 3) w)) ≡ goal
-  unfolding whole_cells
-  whole-step h =
-      let a : i < length w = omega arith in
-      let b : suc i < length w = omega arith in
-      let o : suc (suc i) < length w = omega arith in
-      rw (add-one, add-two, add-three) (rw (drop-cons w i 0 a, drop-cons w (suc i) 0 b, drop-cons w (suc (suc i)) 0 o) at v.is)
-
-  pub whole-turn : {t : Bool} → 3 ≤ length w - i → t ≡ valid_words (get_or w i 0) (get_or w (i + 1) 0) (get_or w (i + 2) 0) → t ≡ true → Cutting w goal (i + 3)
-  whole-turn {t} h e p = record { within = omega arith; is = rw (sym e ∙ p) at (whole-step h) }
-
-  pub whole-stop : {t : Bool} → 3 ≤ length w - i → t ≡ valid_words (get_or w i 0) (get_or w (i + 1) 0) (get_or w (i + 2) 0) → t ≡ false → false ≡ goal
-  whole-stop {t} h e p = rw (sym e ∙ p) at (whole-step h)
-
-  pub whole-done : length w - i < 3 → eqb i (length w) ≡ goal
-  whole-done h =
-      let l : length (drop i w) ≡ length w - i = length-drop i w in
-      let e : length (drop i w) < 3 = omega arith in
-      rw (same (length w) i v.within, ← l, ← short (drop i w) e) v.is
+-- as the code cuts them
+pub whole-cut : (w : List ℕ) → whole_cells w ≡ (eqb (length w % 3) 0 && valid_cells (first_chunks 3 (length w / 3) w))
+whole-cut w = cut (length w / 3) (length w % 3) w (omega arith) (omega arith)
 
 -- a sum, of which `left` is still allowed
 
@@ -128,4 +95,4 @@ module _ {w : List ℕ} {limit left i : ℕ} (v : Summing w limit left i) where
   unfolding sum
   sum_done h = let e : sum w + left ≡ limit + 0 = rw (drop_of_length-le w {i = i} h) at v.is in omega (arith, v.low)
 
-pub ruleset laws = (most-begin, most-turn, most-stop, most-done, whole-begin, whole-turn, whole-stop, whole-done, sum-begin, sum-turn, sum-stop, sum_done)
+pub ruleset laws = (sum-begin, sum-turn, sum-stop, sum_done)

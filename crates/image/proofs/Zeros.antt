@@ -22,26 +22,6 @@ use Rattle.image.specs.Places.{sizes}
 use Rattle.image.specs.Answers.{made_outcome}
 use Rattle.image.proofs.Bounds.{said-no, said-yes}
 
--- the first i words are zero
-pub record Zeroing (w₀ w : List ℕ) (i : ℕ) : Type 0 where
-  pub within : i ≤ length w₀
-  pub len : length w ≡ length w₀
-  pub is : w ≡ replicate i 0 ++ drop i w₀
-
-pub zero-begin : (w : List ℕ) → Zeroing w w 0
-zero-begin w = record { within = omega arith; len = refl; is = refl }
-
-module _ {w₀ w : List ℕ} {i : ℕ} (v : Zeroing w₀ w i) where
-  pub zero_turn : i < length w → Zeroing w₀ (set w i 0) (i + 1)
-  zero_turn h =
-      let k : i < length w₀ = omega (arith, v.len) in
-      record { within = omega arith; len = length-set w i 0 ∙ v.len; is = rw v.is (fill_more i 0 w₀ k) }
-
-  pub zero-done : length w ≤ i → w ≡ replicate (length w₀) 0
-  zero-done h =
-      let e : i ≡ length w₀ = le_antisymm v.within (omega (arith, v.len)) in
-      v.is ∙ rw (drop_of_length-le w₀ {i = i} (omega arith), append-nil {A = ℕ} (replicate i 0), e)
-
 -- the image of a fresh heap: four sizes, then zeros
 
 no-slots : (n : ℕ) → ◌≡◌ {A = List Cell} (flat (replicate n [])) []
@@ -71,29 +51,27 @@ fresh-image z =
 
 -- what the code leaves
 
-put-sizes : (k n t s c : ℕ) → 4 ≤ k → set (set (set (set (replicate k 0) 0 n) 1 t) 2 s) 3 c ≡ n ∷ t ∷ s ∷ c ∷ replicate (k - 4) 0
-put-sizes zero n t s c h = absurd (omega arith)
-put-sizes (suc zero) n t s c h = absurd (omega arith)
-put-sizes (suc (suc zero)) n t s c h = absurd (omega arith)
-put-sizes (suc (suc (suc zero))) n t s c h = absurd (omega arith)
-put-sizes (suc (suc (suc (suc k)))) n t s c h = let e : suc (suc (suc (suc k))) - 4 ≡ k = omega arith in rw e
+after-four : (k : ℕ) → drop 4 (replicate {A = ℕ} k 0) ≡ replicate (k - 4) 0
+after-four zero = refl
+after-four (suc zero) = refl
+after-four (suc (suc zero)) = refl
+after-four (suc (suc (suc zero))) = refl
+after-four (suc (suc (suc (suc k)))) = let e : suc (suc (suc (suc k))) - 4 ≡ k = omega arith in rw e
 
-module _ {p : Bool} (n t s c : ℕ) (w : List ℕ) (e : p ≡ (in_bounds (sizes n t s c) && eqb (length w) (image_length (sizes n t s c)))) where
-  pub new-refused : p ≡ false → made_outcome (Err question.Sizes) w ≡ new_call (sizes n t s c) w
+module _ {p : Bool} (z : Sizes) (w : List ℕ) (e : p ≡ (in_bounds z && eqb (length w) (image_length z))) where
+  pub new-refused : p ≡ false → made_outcome (Err question.Sizes) w ≡ new_call z w
   unfolding made_outcome new_call left
   new-refused h = rw (said-no e h)
 
-  new-length : p ≡ true → length w ≡ image_length (sizes n t s c)
-  new-length h = eqb-true _ _ (and_right (in_bounds (sizes n t s c)) _ (said-yes e h))
+  new-length : p ≡ true → length w ≡ image_length z
+  new-length h = eqb-true _ _ (and_right (in_bounds z) _ (said-yes e h))
 
   pub new-room : p ≡ true → 4 ≤ length w
   unfolding image_length
   new-room h = omega (arith, new-length h)
 
-  pub new-done : {v : List ℕ} → p ≡ true → v ≡ set (set (set (set (replicate (length w) 0) 0 n) 1 t) 2 s) 3 c → made_outcome (Ok tt) v ≡ new_call (sizes n t s c) w
+  pub new-done : {v : List ℕ} → p ≡ true → v ≡ z.n ∷ z.t ∷ z.s ∷ z.c ∷ drop 4 (replicate (length w) 0) → made_outcome (Ok tt) v ≡ new_call z w
   unfolding made_outcome new_call left
   new-done {v} h q =
-      let image : v ≡ encode (fresh (sizes n t s c)) = q ∙ put-sizes (length w) n t s c (new-room h) ∙ rw (new-length h) (sym (fresh-image (sizes n t s c))) in
+      let image : v ≡ encode (fresh z) = q ∙ rw (after-four (length w), new-length h) (sym (fresh-image z)) in
       rw (said-yes e h, image)
-
-pub ruleset laws = (zero-begin, zero_turn, zero-done)

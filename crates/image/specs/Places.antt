@@ -1,9 +1,13 @@
 -- Where the parts of an image begin, and what is known of one that passes question 1.
 use Rattle.std.specs.Prelude.{◌≡◌, List, ℕ, ◌+◌, ◌*◌, ◌≤◌, length, get_or}
 use Rattle.model.specs.Heap.{Sizes}
+use Rattle.image.specs.declared.sizes.Sizes.{Sizes as Given}
 
 abbrev pub sizes : ℕ → ℕ → ℕ → ℕ → Sizes
 sizes n t s c = record { n = n; t = t; s = s; c = c }
+
+abbrev pub model_sizes : Given → Sizes
+model_sizes z = sizes z.n z.t z.s z.c
 
 abbrev pub size_n : List ℕ → ℕ
 size_n w = get_or w 0 0

@@ -9,14 +9,8 @@ use super::counts;
 pub fn whole(words: &[u64]) -> bool
     ensures { result ≡ whole_cells words.now }
 {
-    let mut i = 0;
-    while 3 <= words.len() - i {
-        if !value::is_valid(words[i], words[i + 1], words[i + 2]) {
-            return false;
-        }
-        i += 3;
-    }
-    i == words.len()
+    let (cells, rest) = words.as_chunks::<3>();
+    rest.is_empty() && cells.iter().all(|c| value::is_valid(c[0], c[1], c[2]))
 }
 
 // Are the first k of c cells valid, and the rest zero?
@@ -24,12 +18,5 @@ pub fn packed(words: &[u64], c: usize, k: usize) -> bool
     requires { length words.now ≡ 3 * c }
     ensures { result ≡ packed_cells k words.now }
 {
-    if c < k {
-        return false;
-    }
-    let end = 3 * k;
-    if !whole(&words[..end]) {
-        return false;
-    }
-    counts::at_most(0, &words[end..])
+    k <= c && whole(&words[..3 * k]) && counts::at_most(0, &words[3 * k..])
 }

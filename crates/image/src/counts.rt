@@ -10,14 +10,7 @@ pub const MOST: u64 = 4294967295;
 pub fn at_most(m: u64, words: &[u64]) -> bool
     ensures { result ≡ all_at_most m words.now }
 {
-    let mut i = 0;
-    while i < words.len() {
-        if m < words[i] {
-            return false;
-        }
-        i += 1;
-    }
-    true
+    words.iter().all(|w| *w <= m)
 }
 
 // A barrier: its flag is 0 or 1, and with 0 it has only zero counts.

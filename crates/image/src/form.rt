@@ -10,13 +10,7 @@ use super::{cells, counts, layout, lengths};
 fn cursor_in(cursor: u64, n: u64) -> bool
     ensures { result ≡ cursor_in cursor n }
 {
-    if cursor < n {
-        return true;
-    }
-    if n != 0 {
-        return false;
-    }
-    cursor == 0
+    cursor < n || n == 0 && cursor == 0
 }
 
 // The cursor and the three counters.
@@ -24,13 +18,11 @@ fn counters(image: &[u64]) -> bool
     requires { Sized image.now }
     ensures { result ≡ counters_good image.now }
 {
-    if !cursor_in(image[layout::CURSOR], image[layout::SIZE_N]) {
-        return false;
-    }
-    counts::at_most(
-        counts::MOST,
-        &image[layout::YOUNG_COLLECTIONS..layout::YOUNG_PRESENT],
-    )
+    cursor_in(image[layout::CURSOR], image[layout::SIZE_N])
+        && counts::at_most(
+            counts::MOST,
+            &image[layout::YOUNG_COLLECTIONS..layout::YOUNG_PRESENT],
+        )
 }
 
 // Both barriers.
@@ -38,13 +30,10 @@ fn barriers(image: &[u64]) -> bool
     requires { Sized image.now }
     ensures { result ≡ barriers_good image.now }
 {
-    if !counts::barrier(
+    counts::barrier(
         image[layout::YOUNG_PRESENT],
         &image[layout::YOUNG_COUNTS..layout::OLD_COUNTS],
-    ) {
-        return false;
-    }
-    counts::barrier(
+    ) && counts::barrier(
         image[layout::OLD_PRESENT],
         &image[layout::OLD_COUNTS..layout::LENGTHS],
     )
@@ -58,12 +47,10 @@ fn young(image: &[u64]) -> bool
     let n = image[layout::SIZE_N] as usize;
     let s = image[layout::SIZE_S] as usize;
     let behind = layout::slot_lengths(n);
-    if !lengths::tiled(image[layout::CURSOR], &image[layout::LENGTHS..behind]) {
-        return false;
-    }
     let at = layout::young_cells(n, s);
     let end = layout::old_cells(n, s);
-    cells::whole(&image[at..end])
+    lengths::tiled(image[layout::CURSOR], &image[layout::LENGTHS..behind])
+        && cells::whole(&image[at..end])
 }
 
 // The elder's lengths and cells. A sum of c + 1 stands for any that is too large.
@@ -86,14 +73,5 @@ pub fn is_formed(image: &[u64]) -> bool
     requires { Sized image.now }
     ensures { result ≡ formed image.now }
 {
-    if !counters(image) {
-        return false;
-    }
-    if !barriers(image) {
-        return false;
-    }
-    if !young(image) {
-        return false;
-    }
-    old(image)
+    counters(image) && barriers(image) && young(image) && old(image)
 }

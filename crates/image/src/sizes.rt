@@ -1,8 +1,10 @@
 // Sizes, their bounds, and question 1.
-ghost use Rattle.std.specs.Prelude.{◌≡◌, ◌&&◌, eqb};
+ghost use Rattle.std.specs.Prelude.{◌≡◌, ◌&&◌, leb, eqb};
+ghost use Rattle.std.specs.Bool.{then_some};
 ghost use Rattle.model.specs.Heap.{in_bounds};
 ghost use Rattle.model.specs.Image.{image_length, sized};
-ghost use Rattle.image.specs.Places.{sizes};
+ghost use Rattle.model.specs.Calls.{scratch_length};
+ghost use Rattle.image.specs.Places.{model_sizes};
 
 use super::layout;
 
@@ -18,30 +20,54 @@ const MOST_C: u64 = 65536;
 // The bound of the root cells.
 pub const ROOTS: u64 = 4096;
 
-// Are the sizes within bounds?
-pub fn in_bounds(n: u64, t: u64, s: u64, c: u64) -> bool
-    ensures { result ≡ in_bounds (sizes n t s c) }
-{
-    if MOST_N < n {
-        return false;
-    }
-    if MOST_T < t {
-        return false;
-    }
-    if MOST_S < s {
-        return false;
-    }
-    c <= MOST_C
+#[derive(Clone, Copy)]
+pub struct Sizes {
+    pub n: u64,
+    pub t: u64,
+    pub s: u64,
+    pub c: u64,
 }
 
-// Are the sizes within bounds, and is the length theirs?
-pub fn fit(length: usize, n: u64, t: u64, s: u64, c: u64) -> bool
-    ensures { result ≡ (in_bounds (sizes n t s c) && eqb length (image_length (sizes n t s c))) }
-{
-    if !in_bounds(n, t, s, c) {
-        return false;
+impl Sizes {
+    pub fn in_bounds(self) -> bool
+        ensures { result ≡ in_bounds (model_sizes self) }
+    {
+        self.n <= MOST_N && self.t <= MOST_T && self.s <= MOST_S && self.c <= MOST_C
     }
-    length == layout::image_length(n as usize, s as usize, c as usize)
+
+    // The words of an image, if the sizes are within bounds.
+    pub fn image_words(self) -> Option<u64>
+        ensures { result ≡ then_some (in_bounds (model_sizes self)) (image_length (model_sizes self)) }
+    {
+        if !self.in_bounds() {
+            return None;
+        }
+        let length = layout::image_length(self.n as usize, self.s as usize, self.c as usize);
+        Some(length as u64)
+    }
+
+    // The words of scratch that r root cells want, if the sizes and r are within bounds.
+    pub fn scratch_words(self, r: u64) -> Option<u64>
+        ensures { result ≡ then_some (in_bounds (model_sizes self) && leb r 4096) (scratch_length (model_sizes self) r) }
+    {
+        if !self.in_bounds() || ROOTS < r {
+            return None;
+        }
+        let length = layout::scratch_length(
+            self.n as usize,
+            self.s as usize,
+            self.c as usize,
+            r as usize,
+        );
+        Some(length as u64)
+    }
+
+    // Are the sizes within bounds, and is the length theirs?
+    pub fn fit(self, length: usize) -> bool
+        ensures { result ≡ (in_bounds (model_sizes self) && eqb length (image_length (model_sizes self))) }
+    {
+        self.image_words() == Some(length as u64)
+    }
 }
 
 // Question 1.
@@ -51,11 +77,11 @@ pub fn is_sized(image: &[u64]) -> bool
     if image.len() < layout::SIZES {
         return false;
     }
-    fit(
-        image.len(),
-        image[layout::SIZE_N],
-        image[layout::SIZE_T],
-        image[layout::SIZE_S],
-        image[layout::SIZE_C],
-    )
+    let z = Sizes {
+        n: image[layout::SIZE_N],
+        t: image[layout::SIZE_T],
+        s: image[layout::SIZE_S],
+        c: image[layout::SIZE_C],
+    };
+    z.fit(image.len())
 }

@@ -1,15 +1,12 @@
-use borrow.Author.Rules.{rules}
-use Rattle.image.proofs.Scans.{laws}
+use mathlib.Core.Path.{refl}
+use lib.Dec.{leb}
+use Rattle.std.proofs.Common.{rules, tests}
+use Rattle.std.proofs.lemmas.List.Recursion.{and_is}
+use Rattle.model.specs.Lists.{all_at_most}
 use Rattle.image.proofs.counts.at_most.Goals as goal
 
-pub loop-i-init : goal.loop-i-init
-loop-i-init c = search (laws, rules)
-
-pub returns-then-m-words : goal.returns-then-m-words
-returns-then-m-words c = search (laws, rules)
-
-pub loop-i-preserved : goal.loop-i-preserved
-loop-i-preserved c = search (laws, rules)
-
 pub returns : goal.returns
-returns c = search (laws, rules)
+unfolding all_at_most
+returns c =
+    let m = c.args.m in
+    and_is (all_at_most m) (λ x. leb x m) refl (λ _ _. refl) c.args.words.now 0 _ (search (tests, rules)) (search (tests, rules))

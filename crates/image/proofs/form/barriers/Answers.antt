@@ -3,14 +3,14 @@ use Rattle.image.proofs.Bounds.{said-no, said-yes}
 use Rattle.image.proofs.Parts.{young-counts, old-counts}
 use Rattle.image.proofs.form.barriers.Goals as goal
 
-pub returns-then-not-barrier : goal.returns-then-not-barrier
+pub returns-then-barrier : goal.returns-then-barrier
 unfolding barriers_good
-returns-then-not-barrier c =
+returns-then-barrier c =
     let w = c.args.image.now in
-    rw (young-counts w, said-no c.barrier.ensures c.if-not-barrier.true)
+    rw (young-counts w, old-counts w, said-yes c.barrier.ensures c.if-barrier.true) c.barrier-then-barrier.ensures
 
-pub returns : goal.returns
+pub returns-else-barrier : goal.returns-else-barrier
 unfolding barriers_good
-returns c =
+returns-else-barrier c =
     let w = c.args.image.now in
-    rw (young-counts w, old-counts w, said-yes c.barrier.ensures c.if-not-barrier.false) c.barrier-2.ensures
+    rw (young-counts w, said-no c.barrier.ensures c.if-barrier.false) c.if-barrier.false

@@ -5,13 +5,12 @@ use Rattle.image.proofs.Bounds.{said-no, said-yes}
 use Rattle.image.proofs.Parts.{counters-part}
 use Rattle.image.proofs.form.counters.Goals as goal
 
-pub returns-then-not-cursor_in : goal.returns-then-not-cursor_in
-unfolding counters_good
-returns-then-not-cursor_in c = rw (said-no c.cursor_in.ensures c.if-not-cursor_in.true)
-
-pub returns : goal.returns
+pub returns-then-cursor_in : goal.returns-then-cursor_in
 unfolding counters_good most
-returns c =
-    let p = c.before.before.before.before.before.before.before in
-    let size = p.requires in
-    rw (said-yes c.cursor_in.ensures c.if-not-cursor_in.false) (rw (counters-part p.args.image.now (omega arith)) at c.at_most.ensures)
+returns-then-cursor_in c =
+    let size = c.requires in
+    rw (said-yes c.cursor_in.ensures c.if-cursor_in.true) (rw (counters-part c.args.image.now (omega arith)) at c.at_most.ensures)
+
+pub returns-else-cursor_in : goal.returns-else-cursor_in
+unfolding counters_good
+returns-else-cursor_in c = rw (said-no c.cursor_in.ensures c.if-cursor_in.false) c.if-cursor_in.false

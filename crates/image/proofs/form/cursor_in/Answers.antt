@@ -1,16 +1,16 @@
-use native.Mathlib.Omega.{arith}
-use borrow.Author.Tests.{ne_eqb, lt-ltb, le-ltb}
+use Rattle.std.proofs.Common.{rules, tests, arith}
+use Rattle.std.proofs.lemmas.Bool.Decides.{nat_tests}
 use Rattle.model.specs.Image.{cursor_in}
 use Rattle.image.proofs.form.cursor_in.Goals as goal
 
 pub returns-then-cursor-n : goal.returns-then-cursor-n
 unfolding cursor_in
-returns-then-cursor-n c = let a = c.args in rw (lt-ltb a.cursor a.n (omega arith))
+returns-then-cursor-n c = grind (arith, nat_tests)
 
-pub returns-then-n-ne0 : goal.returns-then-n-ne0
+pub returns-then-n-eq0 : goal.returns-then-n-eq0
 unfolding cursor_in
-returns-then-n-ne0 c = let a = c.args in rw (le-ltb a.cursor a.n (omega arith), ne_eqb _ _ c.if-n-ne0.true)
+returns-then-n-eq0 c = grind (arith, nat_tests)
 
-pub returns : goal.returns
+pub returns-else-n-eq0 : goal.returns-else-n-eq0
 unfolding cursor_in
-returns c = let a = c.args in rw (le-ltb a.cursor a.n (omega arith), c.if-n-ne0.false)
+returns-else-n-eq0 c = grind (arith, nat_tests)
