@@ -28,7 +28,7 @@ fn cell_value(w: Words) -> Value
     requires { valid_words w.tag w.payload w.offset ≡ true }
     ensures { ValueOf (cell_of w.tag w.payload w.offset) result }
 {
-    value::value_of(w.tag, w.payload, w.offset)
+    w.value()
 }
 
 // The nursery's i-th cell.
@@ -54,7 +54,7 @@ fn read_old(image: &[u64], base: u64, offset: i64) -> Result<Value, Question>
     requires { Image image.now (decode image.now) }
     ensures { Loads (read (decode image.now) (pointer 1 base (of_z w64 offset))) result }
 {
-    let o = value::unsigned(offset);
+    let o = offset.cast_unsigned();
     let Some(cell) = layout::read_elder(image, base, o) else {
         return Err(Question::Access);
     };
@@ -86,7 +86,12 @@ fn new_value(cell: &[u64]) -> Value
     requires { value_good cell.now ≡ true }
     ensures { value_cell result ≡ cell_in cell.now }
 {
-    value::value_of(cell[0], cell[1], cell[2])
+    let new = Words {
+        tag: cell[0],
+        payload: cell[1],
+        offset: cell[2],
+    };
+    new.value()
 }
 
 // ---- In the nursery
@@ -145,7 +150,7 @@ fn write_old(image: &mut [u64], base: u64, offset: i64, cell: &[u64]) -> Result<
     ensures { Leaves (write (decode image.old) (pointer 1 base (of_z w64 offset)) (cell_in cell.now)) image.old result image.new }
 {
     let old = read_old(image, base, offset)?;
-    store_old(image, base, value::unsigned(offset), old, cell)
+    store_old(image, base, offset.cast_unsigned(), old, cell)
 }
 
 // There is no other heap.

@@ -8,6 +8,7 @@ ghost use Rattle.question.specs.Question.{answer};
 
 use crate::WriteBarrier;
 use question::Question;
+use value::Words;
 
 // Whether a cell with this first word counts. Tested first, since each count step copies the barrier.
 fn crosses(tag: u64, own: u8) -> bool
@@ -42,8 +43,12 @@ pub fn count_cells(
 {
     for words in cells.chunks_exact(3) {
         if crosses(words[0], own) {
-            let v = value::value_of(words[0], words[1], words[2]);
-            barrier = barrier.count(own, into, v)?;
+            let cell = Words {
+                tag: words[0],
+                payload: words[1],
+                offset: words[2],
+            };
+            barrier = barrier.count(own, into, cell.value())?;
         }
     }
     Ok(barrier)

@@ -24,7 +24,7 @@ pub fn count_change(
     let was = Pointer {
         heap: 0,
         base,
-        offset: value::signed(offset),
+        offset: offset.cast_signed(),
     };
     let is = Pointer {
         heap: 1,

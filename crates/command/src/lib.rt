@@ -22,7 +22,7 @@ use image::sizes::Sizes;
 use question::Question;
 use reader::{Access, Command};
 use registers::Registers;
-use value::{Pointer, Value};
+use value::{Pointer, Value, Words};
 
 // The heap's words in a buffer, 0 without a heap; and the registers.
 #[derive(Clone, Copy)]
@@ -44,10 +44,15 @@ fn set_register(
     requires { (register < 16) × Good registers.old }
     ensures { (w : List ℕ) → Held w → Acts (set register tag payload offset) w registers.old result w registers.new }
 {
-    if !value::is_valid(tag, payload, offset) {
+    let w = Words {
+        tag,
+        payload,
+        offset,
+    };
+    if !w.is_valid() {
         return Answer::Refused(3);
     }
-    registers.set(register, value::value_of(tag, payload, offset));
+    registers.set(register, w.value());
     Answer::Set
 }
 
@@ -142,7 +147,7 @@ fn store_in(image: &mut [u64], registers: &Registers, a: Access) -> Answer
     if image.len() == 0 {
         return Answer::Refused(14);
     }
-    let w = value::encode(registers.get(a.register as usize));
+    let w = Words::from(registers.get(a.register as usize));
     let cell = [w.tag, w.payload, w.offset];
     match target_of(registers.get(a.pointer as usize), a.offset) {
         Ok(p) => match access::write_formed(image, p, &cell) {

@@ -96,7 +96,7 @@ impl Words<7> for Allocation {
         let p = self.pointer;
         let nursery = self.nursery;
         let elder = self.elder;
-        let offset = value::unsigned(p.offset);
+        let offset = p.offset.cast_unsigned();
         [
             p.heap as u64,
             p.base,
@@ -143,7 +143,7 @@ impl Words<3> for Value {
     ghost words = { λ v. cell_words (value_cell v ∷ []) };
 
     fn to_words(self) -> [u64; 3] {
-        let w = value::encode(self);
+        let w = value::Words::from(self);
         [w.tag, w.payload, w.offset]
     }
 }

@@ -4,13 +4,22 @@ ghost use Rattle.model.specs.Records.{whole_cells};
 ghost use Rattle.model.specs.Image.{packed_cells};
 
 use super::counts;
+use value::Words;
 
 // Are the words whole, valid cells?
 pub fn whole(words: &[u64]) -> bool
     ensures { result ≡ whole_cells words.now }
 {
     let (cells, rest) = words.as_chunks::<3>();
-    rest.is_empty() && cells.iter().all(|c| value::is_valid(c[0], c[1], c[2]))
+    rest.is_empty()
+        && cells.iter().all(|c| {
+            Words {
+                tag: c[0],
+                payload: c[1],
+                offset: c[2],
+            }
+            .is_valid()
+        })
 }
 
 // Are the first k of c cells valid, and the rest zero?

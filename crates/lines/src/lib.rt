@@ -15,7 +15,7 @@ use collector::Allocation;
 use command::Answer;
 use figure::Figure;
 use report::Statistics;
-use value::Value;
+use value::{Value, Words};
 
 // ---- Parts of a text
 
@@ -45,9 +45,9 @@ fn cell_numbers(v: Value) -> [u64; 4]
     ensures { spaced result ≡ cell_text (value_cell v) }
 {
     match v {
-        Value::Pointer(p) => [5, p.heap as u64, p.base, value::unsigned(p.offset)],
+        Value::Pointer(p) => [5, p.heap as u64, p.base, p.offset.cast_unsigned()],
         _ => {
-            let w = value::encode(v);
+            let w = Words::from(v);
             [w.tag, 0, w.payload, 0]
         }
     }

@@ -6,7 +6,7 @@ ghost use Rattle.model.specs.Records.{blank, cell_words, whole_cells};
 ghost use Rattle.model.specs.Calls.{cells_in};
 ghost use Rattle.registers.specs.Cells.{unset, cells_of_registers, Good};
 
-use value::{Value, encode, value_of};
+use value::{Value, Words};
 
 #[derive(Clone, Copy)]
 pub struct Registers {
@@ -46,7 +46,7 @@ impl Registers {
     {
         let mut w = [0u64; 48];
         for i in 0..Registers::COUNT {
-            let x = encode(self.get(i));
+            let x = Words::from(self.get(i));
             w[3 * i] = x.tag;
             w[3 * i + 1] = x.payload;
             w[3 * i + 2] = x.offset;
@@ -62,7 +62,12 @@ impl Registers {
     {
         let mut s = Registers::new();
         for i in 0..Registers::COUNT {
-            s.set(i, value_of(w[3 * i], w[3 * i + 1], w[3 * i + 2]));
+            let cell = Words {
+                tag: w[3 * i],
+                payload: w[3 * i + 1],
+                offset: w[3 * i + 2],
+            };
+            s.set(i, cell.value());
         }
         s
     }

@@ -3,6 +3,7 @@ use mathlib.Core.Path.{◌≡◌, refl, sym, ap, ◌∙◌}
 use mathlib.Core.Bool.{Bool, true, false}
 use mathlib.Core.List.{[], ◌∷◌}
 use Prim.Native.Nat.{ℕ, zero, suc}
+use Rattle.std.specs.Prelude.{Result, Ok, Err}
 use native.Mathlib.Omega.{arith}
 use lib.Dec.{eqb}
 use lib.Ieee.{binary64, of_bits}
@@ -14,9 +15,9 @@ use Rattle.model.specs.Records.{Cell, plain, ref, blank, cell_words, cell_of, va
 use Rattle.theorems.proofs.Cells.{kind_word, payload_word, offset_word, words-cons, cell-back, valid-words, cell-words}
 use Rattle.value.specs.declared.Value.{Value}
 use Rattle.value.specs.declared.Value.TheVariants.{Uninitialized, Int, Bool as BoolV, Float as FloatV, Char, Pointer as PointerV}
-use Rattle.value.specs.declared.Decoded.{Decoded}
-use Rattle.value.specs.declared.Decoded.TheVariants.{Valid, Invalid}
-use Rattle.value.specs.Value.{value_cell, Whole, Ranged, Spelled, cell_asked, decoded_cell, Decodes}
+use Rattle.question.specs.Question.{answer}
+use Rattle.question.specs.declared.Question.{Question}
+use Rattle.value.specs.Value.{value_cell, Whole, Ranged, Spelled, cell_asked, Decodes}
 
 -- the words of the value of a valid cell's words are those
 pub spelled-words : (a b o : ℕ) (v : Value) → valid_words a b o ≡ true → Spelled a b o v → cell_words (value_cell v ∷ []) ≡ a ∷ b ∷ o ∷ []
@@ -24,9 +25,9 @@ unfolding cell_words
 spelled-words a b o v e s = rw s.cell (cell-words a b o [] e)
 
 -- a decoded value is that of its words, and they are a valid cell's
-module _ (a b o : ℕ) (v : Value) (d : Decodes a b o (Valid v)) where
+module _ (a b o : ℕ) (v : Value) (d : Decodes a b o (Ok v)) where
   pub decoded-asked : valid_words a b o ≡ true
-  unfolding decoded_cell cell_asked
+  unfolding cell_asked
   decoded-asked = go (valid_words a b o) d.cell
     where
       go : (t : Bool) → ok (value_cell v) ≡ (ask 3 t >>= λ _. ok (cell_of a b o)) → t ≡ true
@@ -34,7 +35,7 @@ module _ (a b o : ℕ) (v : Value) (d : Decodes a b o (Valid v)) where
       go false e = let z : ◌≡◌ {A = ℕ} 0 1 = cc in absurd (omega arith)
 
   pub decoded-spelled : Spelled a b o v
-  unfolding decoded_cell cell_asked
+  unfolding cell_asked
   decoded-spelled = record { cell = unwrapped (rw decoded-asked at d.cell); whole = d.whole; ranged = d.ranged }
     where
       unwrapped : ok (value_cell v) ≡ ok (cell_of a b o) → value_cell v ≡ cell_of a b o
@@ -72,12 +73,12 @@ unfolding cell_words
 three-words c a b o e = let three : (a ∷ b ∷ o ∷ []) ≡ (kind_word c ∷ payload_word c ∷ offset_word c ∷ []) = e ∙ words-cons c [] in (cc, cc, cc)
 
 pub words-decode : (v : Value) → Whole v → Ranged v → valid (value_cell v) ≡ true
-    → (a b o : ℕ) (r : Decoded) → (a ∷ b ∷ o ∷ []) ≡ cell_words (value_cell v ∷ []) → Decodes a b o r → r ≡ Valid v
-unfolding decoded_cell cell_asked
+    → (a b o : ℕ) (r : Result Value Question) → (a ∷ b ∷ o ∷ []) ≡ cell_words (value_cell v ∷ []) → Decodes a b o r → r ≡ Ok v
+unfolding cell_asked
 words-decode v w n g a b o r e d =
     let (first, second, third) = three-words (value_cell v) a b o e in
     go r d (rw (valid-words (value_cell v) g, cell-back (value_cell v) g) at (rw (first, second, third) at d.cell))
   where
-    go : (r : Decoded) → Decodes a b o r → decoded_cell r ≡ ok (value_cell v) → r ≡ Valid v
-    go (Valid u) d q = ap Valid (same-cell u v d.whole d.ranged w n (cc))
-    go Invalid d q = let z : ◌≡◌ {A = ℕ} 0 1 = cc in absurd (omega arith)
+    go : (r : Result Value Question) → Decodes a b o r → answer value_cell r ≡ ok (value_cell v) → r ≡ Ok v
+    go (Ok u) d q = ap Ok (same-cell u v d.whole d.ranged w n (cc))
+    go (Err u) d q = let z : ◌≡◌ {A = ℕ} 0 1 = cc in absurd (omega arith)

@@ -9,7 +9,7 @@ use lib.Ieee.{Float, binary64, of_bits}
 use mir.Syntax.{w64}
 use mir.Val.{Fits, to_z, of_z}
 use mir.ValLaws.{to_z-Fits, of_z-to_z}
-use borrow.Author.Tests.{eqb-true, ltb-true, le-ltb}
+use borrow.Author.Tests.{eqb-true, eqb-false, ltb-true, le-ltb}
 use Rattle.model.specs.Records.{plain, ref, blank, cell_if, cell_of, scalar, valid_plain, valid, spare_zero, valid_words}
 use Rattle.theorems.proofs.Lists.{and_left, and_right}
 use Rattle.theorems.proofs.Cells.{plain-kind}
@@ -27,7 +27,7 @@ no_kind k v h = go (valid_plain k v) refl
     go false e = refl
 
 -- words whose first is no pointer's of heap 0 or 1
-pub plain-asked : (a b o : ℕ) → (a ≡ 5 → ⊥) → (a ≡ 261 → ⊥) → valid_words a b o ≡ (valid_plain a b && eqb o 0)
+plain-asked : (a b o : ℕ) → (a ≡ 5 → ⊥) → (a ≡ 261 → ⊥) → valid_words a b o ≡ (valid_plain a b && eqb o 0)
 unfolding valid_words cell_of valid
 plain-asked a b o y e = go (eqb (a % 256) 5) refl
   where
@@ -37,6 +37,22 @@ plain-asked a b o y e = go (eqb (a % 256) 5) refl
         let heap : 2 ≤ a / 256 = omega arith in
         rw (le-ltb (a / 256) 2 heap, no_kind a b (omega arith))
     go false q = refl
+
+-- question 3 as the code asks it
+pub words-asked : (a b o : ℕ) → valid_words a b o ≡ (eqb a 5 || (eqb a 261 || (eqb o 0 && valid_plain a b)))
+unfolding valid_words cell_of valid
+words-asked a b o = go (eqb a 5) (eqb a 261) refl refl
+  where
+    turned : (s t : Bool) → (s && t) ≡ (t && s)
+    turned true true = refl
+    turned true false = refl
+    turned false true = refl
+    turned false false = refl
+
+    go : (s t : Bool) → eqb a 5 ≡ s → eqb a 261 ≡ t → valid_words a b o ≡ (s || (t || (eqb o 0 && valid_plain a b)))
+    go true t p q = rw (eqb-true a 5 p)
+    go false true p q = rw (eqb-true a 261 q)
+    go false false p q = plain-asked a b o (eqb-false a 5 p) (eqb-false a 261 q) ∙ turned (valid_plain a b) (eqb o 0)
 
 -- what the machine reads back of a word's signed reading
 pub read_back : (w : ℕ) (x : ℤ) → Fits w64 w → x ≡ to_z w64 w → to_z w64 (of_z w64 x) ≡ to_z w64 w

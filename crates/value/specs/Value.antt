@@ -1,15 +1,25 @@
 -- What a value is in the model: a cell. And what decoding three words gives.
-use Rattle.std.specs.Prelude.{◌≡◌, Bool, true, false, ℕ}
+use Rattle.std.specs.Prelude.{◌≡◌, Bool, true, false, ℕ, Result, IfOk}
 use Rattle.std.specs.Float.{binary64}
 use Rattle.std.specs.Float.Ieee.{of_bits}
 use Rattle.std.specs.Int.{w64}
 use Rattle.std.proofs.Common.{SFits, of_z}
 use Rattle.model.specs.Res.{Res, ok, refuse, ◌>>=◌, ask}
+use Rattle.question.specs.Question.{answer}
+use Rattle.question.specs.declared.Question.{Question}
 use Rattle.model.specs.Records.{Cell, plain, ref, blank, cell_of, valid_words}
 use Rattle.value.specs.declared.Value.{Value}
 use Rattle.value.specs.declared.Value.TheVariants.{Uninitialized, Int, Bool as BoolV, Float as FloatV, Char, Pointer as PointerV}
-use Rattle.value.specs.declared.Decoded.{Decoded}
-use Rattle.value.specs.declared.Decoded.TheVariants.{Valid, Invalid}
+use Rattle.value.specs.declared.Kind.{Kind}
+use Rattle.value.specs.declared.Kind.TheVariants as kind
+
+abbrev pub kind_number : Kind → ℕ
+kind_number kind.Uninitialized = 0
+kind_number kind.Int = 1
+kind_number kind.Bool = 2
+kind_number kind.Float = 3
+kind_number kind.Char = 4
+kind_number kind.Pointer = 5
 
 abbrev pub bool_word : Bool → ℕ
 bool_word true = 1
@@ -51,15 +61,7 @@ pub record Spelled (a b o : ℕ) (v : Value) : Type 0 where
 unfoldable pub cell_asked : ℕ → ℕ → ℕ → Res Cell
 cell_asked a b o = ask 3 (valid_words a b o) >>= λ _. ok (cell_of a b o)
 
-unfoldable pub decoded_cell : Decoded → Res Cell
-decoded_cell (Valid v) = ok (value_cell v)
-decoded_cell Invalid = refuse 3
-
-abbrev pub of_decoded : (Value → Type 0) → Decoded → Type 0
-of_decoded P (Valid v) = P v
-of_decoded P Invalid = Unit {0}
-
-pub record Decodes (a b o : ℕ) (r : Decoded) : Type 0 where
-  pub cell : decoded_cell r ≡ cell_asked a b o
-  pub whole : of_decoded Whole r
-  pub ranged : of_decoded Ranged r
+pub record Decodes (a b o : ℕ) (r : Result Value Question) : Type 0 where
+  pub cell : answer value_cell r ≡ cell_asked a b o
+  pub whole : IfOk r Whole
+  pub ranged : IfOk r Ranged

@@ -11,5 +11,5 @@ bounds-cell-1 c = omega (arith, value-length _ c.requires)
 pub bounds-cell-2 : goal.bounds-cell-2
 bounds-cell-2 c = omega (arith, value-length _ c.requires)
 
-pub value_of-requires : goal.value_of-requires
-value_of-requires c = value-valid _ c.requires
+pub value-requires : goal.value-requires
+value-requires c = value-valid _ c.requires

@@ -9,15 +9,15 @@ use Rattle.question.proofs.Passing.{refused_as}
 use Rattle.access.specs.Access.{loaded_cell}
 use Rattle.access.proofs.Writes.{left-refused, old-read, old-written, old-unread}
 use Rattle.access.proofs.write_old.Goals as goal
-use Rattle.access.proofs.write_old.Goals.{After-read_old, After-unsigned}
+use Rattle.access.proofs.write_old.Goals.{After-read_old, After-cast_unsigned}
 
 was_read : (c : After-read_old) → loaded_cell c.read_old.result ≡ read (decode c.args.image.now) (pointer 1 c.args.base (of_z w64 c.args.offset))
 was_read c =
     rw (to_z-of_z w64 c.args.offset c.ranges.offset) at c.read_old.ensures.cell
 
-word : (c : After-unsigned) → c.unsigned.result ≡ of_z w64 c.args.offset
+word : (c : After-cast_unsigned) → c.cast_unsigned.result ≡ of_z w64 c.args.offset
 word c =
-    c.unsigned.ensures ∙ ap (of_z w64) (to_z-of_z w64 c.args.offset c.ranges.offset)
+    c.cast_unsigned.ensures ∙ ap (of_z w64) (to_z-of_z w64 c.args.offset c.ranges.offset)
 
 pub store_old-requires : goal.store_old-requires
 unfolding loaded_cell
@@ -34,7 +34,7 @@ pub returns : goal.returns
 unfolding loaded_cell
 returns c =
     let t = old-read c.args.image.now c.args.base (of_z w64 c.args.offset) (sym (was_read (goal.at.returns c).After-read_old) ∙ ap loaded_cell c.in_ok-old.was) in
-    rw (word (goal.at.returns c).After-unsigned, old-written c.args.image.now c.args.base (of_z w64 c.args.offset) _ t.0) at c.store_old.ensures
+    rw (word (goal.at.returns c).After-cast_unsigned, old-written c.args.image.now c.args.base (of_z w64 c.args.offset) _ t.0) at c.store_old.ensures
 
 pub returns-in_err-old : goal.returns-in_err-old
 unfolding loaded_cell

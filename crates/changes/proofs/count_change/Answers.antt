@@ -7,10 +7,10 @@ use Rattle.changes.proofs.count_change.Goals as goal
 pub returns-in_err-less : goal.returns-in_err-less
 returns-in_err-less c =
     let i = c.ranges.offset in
-    let e = change-refused _ _ _ _ _ _ i (read_back _ _ i c.signed.ensures) c.count_out.result c.count_out.ensures _ c.in_err-less.was in
+    let e = change-refused _ _ _ _ _ _ i (read_back _ _ i c.cast_signed.ensures) c.count_out.result c.count_out.ensures _ c.in_err-less.was in
     passed_on _ c.from_residual.result _ c.from_residual.ensures.1 ∙ e
 
 pub returns : goal.returns
 returns c =
     let i = c.ranges.offset in
-    c.count_in.ensures ∙ change-in _ _ _ _ _ _ i (read_back _ _ i c.signed.ensures) c.count_out.result c.count_out.ensures _ c.in_ok-less.was
+    c.count_in.ensures ∙ change-in _ _ _ _ _ _ i (read_back _ _ i c.cast_signed.ensures) c.count_out.result c.count_out.ensures _ c.in_ok-less.was

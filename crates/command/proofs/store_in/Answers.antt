@@ -28,12 +28,12 @@ write_formed-requires c = c.requires.held.formed (there (goal.at.write_formed-re
 pub returns-in-Ok-write_formed : goal.returns-in-Ok-write_formed
 returns-in-Ok-write_formed c =
     let u = c.get in
-    store-done _ _ _ c.requires.held c.requires.register_bound.2 (there (goal.at.returns-in-Ok-write_formed c).After-target_of) c.get-2.result c.get-2.ensures c.target_of.result (aim (goal.at.returns-in-Ok-write_formed c).After-target_of) u.result u.ensures c.in-Ok.is c.encode-w.ensures c.write_formed.result _ c.write_formed.ensures c.in-Ok-write_formed.is
+    store-done _ _ _ c.requires.held c.requires.register_bound.2 (there (goal.at.returns-in-Ok-write_formed c).After-target_of) c.get-2.result c.get-2.ensures c.target_of.result (aim (goal.at.returns-in-Ok-write_formed c).After-target_of) u.result u.ensures c.in-Ok.is c.from-w.ensures c.write_formed.result _ c.write_formed.ensures c.in-Ok-write_formed.is
 
 pub returns-in-Err-write_formed : goal.returns-in-Err-write_formed
 returns-in-Err-write_formed c =
     let u = c.get in
-    store-refused _ _ _ c.requires.held c.requires.register_bound.2 (there (goal.at.returns-in-Err-write_formed c).After-target_of) c.get-2.result c.get-2.ensures c.target_of.result (aim (goal.at.returns-in-Err-write_formed c).After-target_of) u.result u.ensures c.in-Ok.is c.encode-w.ensures c.write_formed.result _ c.write_formed.ensures c.in-Err-write_formed.is c.number.ensures (refl, refl)
+    store-refused _ _ _ c.requires.held c.requires.register_bound.2 (there (goal.at.returns-in-Err-write_formed c).After-target_of) c.get-2.result c.get-2.ensures c.target_of.result (aim (goal.at.returns-in-Err-write_formed c).After-target_of) u.result u.ensures c.in-Ok.is c.from-w.ensures c.write_formed.result _ c.write_formed.ensures c.in-Err-write_formed.is c.number.ensures (refl, refl)
 
 pub returns-in-Err : goal.returns-in-Err
 returns-in-Err c =

@@ -14,9 +14,9 @@ pub returns-in-Pointer : goal.returns-in-Pointer
 unfolding cell_text value_cell
 returns-in-Pointer c =
     let p = c.in-Pointer.p in
-    rw c.in-Pointer.is (ap (λ (o : ℕ). spaced (5 ∷ p.heap ∷ p.base ∷ o ∷ [])) (c.unsigned.ensures ∙ ap (of_z w64) (to_z-of_z w64 p.offset (search rules))))
+    rw c.in-Pointer.is (ap (λ (o : ℕ). spaced (5 ∷ p.heap ∷ p.base ∷ o ∷ [])) (c.cast_unsigned.ensures ∙ ap (of_z w64) (to_z-of_z w64 p.offset (search rules))))
 
 pub returns-in_default : goal.returns-in_default
 returns-in_default c =
-    let w = c.encode-w.result in
-    plain-text c.args.v w.tag w.payload w.offset c.in_default.not-Pointer c.encode-w.ensures
+    let w = c.from-w.result in
+    plain-text c.args.v w.tag w.payload w.offset c.in_default.not-Pointer c.from-w.ensures

@@ -12,12 +12,12 @@ long s = search rules
 pub loop-i-init : goal.loop-i-init
 loop-i-init c = loaded-none c.args.w.now (long (goal.at.loop-i-init c).Start) c.requires c.new-s.ensures.cells c.new-s.ensures.good
 
-pub value_of-requires : goal.value_of-requires
-value_of-requires c = valid-here _ (long (goal.at.value_of-requires c).Start) c.loop-i.invariant c.loop-i-test.true
+pub value-requires : goal.value-requires
+value-requires c = valid-here _ (long (goal.at.value-requires c).Start) c.loop-i.invariant c.loop-i-test.true
 
 pub loop-i-preserved : goal.loop-i-preserved
 loop-i-preserved c =
-    loaded-more _ (long (goal.at.loop-i-preserved c).Start) c.loop-i.invariant c.loop-i-test.true c.value_of.ensures c.set.new.self c.set.ensures
+    loaded-more _ (long (goal.at.loop-i-preserved c).Start) c.loop-i.invariant c.loop-i-test.true c.value.ensures c.set.new.self c.set.ensures
 
 pub returns : goal.returns
 returns c = record {

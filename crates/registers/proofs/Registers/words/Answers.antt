@@ -17,7 +17,7 @@ loop-i-init c = written_none (cells_of_registers c.args.self.now)
 
 pub loop-i-preserved : goal.loop-i-preserved
 loop-i-preserved c =
-    written-more (long (goal.at.loop-i-preserved c).Start) c.loop-i.invariant c.loop-i-test.true (got_cell c.args.self.now c.loop-i.i c.get.ensures) c.encode-x.ensures
+    written-more (long (goal.at.loop-i-preserved c).Start) c.loop-i.invariant c.loop-i-test.true (got_cell c.args.self.now c.loop-i.i c.get.ensures) c.from-x.ensures
 
 pub returns : goal.returns
 returns c =
