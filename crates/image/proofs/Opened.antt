@@ -4,7 +4,6 @@ use mathlib.Core.Bool.{Bool, true, false}
 use mathlib.Core.List.{List}
 use Rattle.std.specs.Prelude.{Result, Ok, Err}
 use Prim.Native.Nat.{ℕ}
-use native.Mathlib.Omega.{arith}
 use Rattle.model.specs.Res.{Res, ok, refuse, ◌>>=◌, ask}
 use Rattle.model.specs.Heap.{Heap}
 use Rattle.model.specs.Image.{decode, sized, formed}
@@ -32,8 +31,8 @@ module _ (w : List ℕ) {r : Result (Unit {0}) Question} (e : done_answer r ≡ 
     where
       go : (a b : Bool) → ok tt ≡ (ask 1 a >>= λ _. ask 2 b) → (a ≡ true) × (b ≡ true)
       go true true k = (refl, refl)
-      go true false k = let z : ◌≡◌ {A = ℕ} 0 1 = cc in absurd (omega arith)
-      go false b k = let z : ◌≡◌ {A = ℕ} 0 1 = cc in absurd (omega arith)
+      go true false k = cc
+      go false b k = cc
 
   pub formed-image : r ≡ Ok tt → Image w (decode w)
   formed-image f = image-of w (passed f).0 (passed f).1
@@ -47,6 +46,6 @@ module _ (w : List ℕ) {r : Result (Unit {0}) Question} (e : done_answer r ≡ 
   refused-opened {A} k q f = go (sized w) (formed w) (ap done_answer (sym f) ∙ e)
     where
       go : (a b : Bool) → refuse (number q) ≡ (ask 1 a >>= λ _. ask 2 b) → refuse (number q) ≡ ((ask 1 a >>= λ _. ask 2 b >>= λ _. ok (decode w)) >>= k)
-      go true true t = let z : ◌≡◌ {A = ℕ} 0 1 = cc in absurd (omega arith)
+      go true true t = cc
       go true false t = let z : number q ≡ 2 = cc in ap refuse z
       go false b t = let z : number q ≡ 1 = cc in ap refuse z

@@ -1,15 +1,13 @@
 -- A fresh image is its four sizes, then zeros.
 use mathlib.Core.Path.{◌≡◌, refl, sym, ap, ◌∙◌}
 use mathlib.Core.Bool.{Bool, true, false, ◌&&◌}
-use mathlib.Core.List.{List, [], ◌∷◌, ◌++◌, map, append-nil}
+use mathlib.Core.List.{List, [], ◌∷◌, map}
 use Rattle.std.specs.Prelude.{Ok, Err}
-use Prim.Native.Nat.{ℕ, zero, suc, ◌+◌, ◌-◌, ◌*◌, ◌≤◌, ◌<◌}
-use native.Mathlib.Nat.{le_antisymm}
+use Prim.Native.Nat.{ℕ, zero, suc, ◌+◌, ◌-◌, ◌*◌, ◌≤◌}
 use native.Mathlib.Omega.{arith}
-use borrow.Author.Fill.{fill_more}
 use lib.Dec.{eqb}
 use borrow.Author.Tests.{eqb-true}
-use lib.ListN.{length, set, drop, replicate, length-set, drop_of_length-le, replicate-append-replicate}
+use lib.ListN.{length, drop, replicate, replicate-append-replicate}
 use Rattle.model.specs.Lists.{flat}
 use Rattle.model.specs.Records.{Cell, blank, cell_words}
 use Rattle.model.specs.Barrier.{cache, counts}
@@ -18,7 +16,6 @@ use Rattle.model.specs.Image.{image_length, flag, encode}
 use Rattle.model.specs.Calls.{left, new_call}
 use Rattle.theorems.proofs.Lists.{and_right}
 use Rattle.question.specs.declared.Question.TheVariants as question
-use Rattle.image.specs.Places.{sizes}
 use Rattle.image.specs.Answers.{made_outcome}
 use Rattle.image.proofs.Bounds.{said-no, said-yes}
 

@@ -4,7 +4,6 @@ use mathlib.Core.Bool.{Bool, true, false}
 use mathlib.Core.List.{[], ◌∷◌}
 use Prim.Native.Nat.{ℕ, zero, suc}
 use Rattle.std.specs.Prelude.{Result, Ok, Err}
-use native.Mathlib.Omega.{arith}
 use lib.Dec.{eqb}
 use lib.Ieee.{binary64, of_bits}
 use mir.Syntax.{w64}
@@ -32,7 +31,7 @@ module _ (a b o : ℕ) (v : Value) (d : Decodes a b o (Ok v)) where
     where
       go : (t : Bool) → ok (value_cell v) ≡ (ask 3 t >>= λ _. ok (cell_of a b o)) → t ≡ true
       go true e = refl
-      go false e = let z : ◌≡◌ {A = ℕ} 0 1 = cc in absurd (omega arith)
+      go false e = cc
 
   pub decoded-spelled : Spelled a b o v
   unfolding cell_asked
@@ -81,4 +80,4 @@ words-decode v w n g a b o r e d =
   where
     go : (r : Result Value Question) → Decodes a b o r → answer value_cell r ≡ ok (value_cell v) → r ≡ Ok v
     go (Ok u) d q = ap Ok (same-cell u v d.whole d.ranged w n (cc))
-    go (Err u) d q = let z : ◌≡◌ {A = ℕ} 0 1 = cc in absurd (omega arith)
+    go (Err u) d q = cc

@@ -4,7 +4,7 @@ use Rattle.std.specs.Float.{binary64}
 use Rattle.std.specs.Float.Ieee.{of_bits}
 use Rattle.std.specs.Int.{w64}
 use Rattle.std.proofs.Common.{SFits, of_z}
-use Rattle.model.specs.Res.{Res, ok, refuse, ◌>>=◌, ask}
+use Rattle.model.specs.Res.{Res, ok, ◌>>=◌, ask}
 use Rattle.question.specs.Question.{answer}
 use Rattle.question.specs.declared.Question.{Question}
 use Rattle.model.specs.Records.{Cell, plain, ref, blank, cell_of, valid_words}

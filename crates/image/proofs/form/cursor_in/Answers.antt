@@ -1,4 +1,4 @@
-use Rattle.std.proofs.Common.{rules, tests, arith}
+use Rattle.std.proofs.Common.{arith}
 use Rattle.std.proofs.lemmas.Bool.Decides.{nat_tests}
 use Rattle.model.specs.Image.{cursor_in}
 use Rattle.image.proofs.form.cursor_in.Goals as goal

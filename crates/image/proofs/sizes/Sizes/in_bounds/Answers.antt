@@ -1,5 +1,4 @@
-use Rattle.std.proofs.Common.{rules, tests, arith}
-use Rattle.std.proofs.lemmas.Bool.Decides.{nat_tests}
+use Rattle.std.proofs.Common.{rules, tests}
 use Rattle.model.specs.Heap.{in_bounds}
 use Rattle.image.proofs.sizes.Sizes.in_bounds.Goals as goal
 
