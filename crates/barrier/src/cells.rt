@@ -31,7 +31,7 @@ pub fn any_crosses(cells: &[u64], own: u8) -> bool
 }
 
 // Each counted in if `into`, else out.
-// (d) a flag: the contract names the step by it, which a function passed in would need clauses of its own for.
+// A flag and no function passed in: the contract names the step by it, and would need clauses of its own for a function.
 pub fn count_cells(
     cells: &[u64],
     own: u8,

@@ -20,7 +20,7 @@ pub struct Layout {
 }
 
 // The parts of the image whose layout it is, as they are read.
-// (d) One that is written is cut by its writer: a method that lent it would need a starred clause on what comes back.
+// One that is written is cut by its writer: a method that lent it would need a starred clause on what comes back.
 impl Layout {
     // The nursery's lengths.
     pub fn young_lengths(self, image: &[u64]) -> &[u64]

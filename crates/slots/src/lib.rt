@@ -32,7 +32,7 @@ pub fn in_use(lens: &[u64]) -> usize
 pub fn held(lens: &[u64]) -> usize
     ensures { result ≡ length (places 0 lens.now) }
 {
-    // (b) `filter` and `count` take 28 µs of 8,192 lengths, this loop 2 to 3
+    // Not `filter` and `count`: they take 28 µs for 8,192 lengths, this loop 2 to 3.
     let mut n: usize = 0;
     for len in lens {
         if 0 < *len {

@@ -204,7 +204,7 @@ fn walk(lens: &[u64], cells: &[u64], own: u64, list: &mut [u64], count: usize) -
 {
     let mut n = count;
     let mut p = 0;
-    // (d) a while: the list grows as it is walked, so its entries are no range or slice that a `for` could go over.
+    // No `for`: the list grows as it is walked, so its entries are no range or slice.
     while p < n {
         n = visit(lens, cells, own, list, n, p);
         p += 1;
