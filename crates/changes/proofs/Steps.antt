@@ -17,7 +17,9 @@ use Rattle.question.specs.Question.{number, answer}
 use Rattle.question.specs.declared.Question.{Question}
 use Rattle.barrier.specs.declared.WriteBarrier.{WriteBarrier}
 use Rattle.barrier.specs.Counts.{barrier_of}
-use Rattle.changes.specs.Changes.{times, move_of, count_change}
+use Rattle.slots.specs.Slots.{move_of}
+use Rattle.slots.specs.declared.Move.{Move}
+use Rattle.changes.specs.Changes.{times, count_change}
 
 -- a step made, and the rest to follow
 module _ (m : Res Barrier) (f : Barrier → Res Barrier) (r : Result WriteBarrier Question) (e : answer barrier_of r ≡ m) where
@@ -28,22 +30,22 @@ module _ (m : Res Barrier) (f : Barrier → Res Barrier) (r : Result WriteBarrie
   then-refused q k = rw (← e, k)
 
 -- one change: x is the offset's i64
-module _ (own base offset new : ℕ) (x : ℤ) (b : Barrier) (s : Fits w64 offset) (is : x ≡ to_z w64 offset) where
-  was-cell : value_cell (PointerV (record { heap = 0; base = base; offset = x })) ≡ ref (move_of base offset new).0
+module _ (own : ℕ) (m : Move) (x : ℤ) (b : Barrier) (s : Fits w64 m.offset) (is : x ≡ to_z w64 m.offset) where
+  was-cell : value_cell (PointerV (record { heap = 0; base = m.base; offset = x })) ≡ ref (move_of m).0
   unfolding value_cell
-  was-cell = rw is (λ i. ref (record { heap = 0; base = base; off = of_z-to_z w64 offset s i }))
+  was-cell = rw is (λ i. ref (record { heap = 0; base = m.base; off = of_z-to_z w64 m.offset s i }))
 
-  module _ (r : Result WriteBarrier Question) (e : answer barrier_of r ≡ count_out own (value_cell (PointerV (record { heap = 0; base = base; offset = x }))) b) where
-    out : answer barrier_of r ≡ count_out own (ref (move_of base offset new).0) b
+  module _ (r : Result WriteBarrier Question) (e : answer barrier_of r ≡ count_out own (value_cell (PointerV (record { heap = 0; base = m.base; offset = x }))) b) where
+    out : answer barrier_of r ≡ count_out own (ref (move_of m).0) b
     out = e ∙ ap (λ (v : Cell). count_out own v b) was-cell
 
-    pub change-refused : (q : Question) → r ≡ Err q → refuse (number q) ≡ count_change own (move_of base offset new) b
+    pub change-refused : (q : Question) → r ≡ Err q → refuse (number q) ≡ count_change own (move_of m) b
     unfolding count_change
     change-refused q k = then-refused _ _ r out q k
 
-    pub change-in : (d : WriteBarrier) → r ≡ Ok d → count_in own (value_cell (PointerV (record { heap = 1; base = new; offset = pos 0 }))) (barrier_of d) ≡ count_change own (move_of base offset new) b
+    pub change-in : (d : WriteBarrier) → r ≡ Ok d → count_in own (value_cell (PointerV (record { heap = 1; base = m.new; offset = pos 0 }))) (barrier_of d) ≡ count_change own (move_of m) b
     unfolding count_change value_cell moved_to whole
-    change-in d k = then-done _ (count_in own (ref (moved_to (move_of base offset new)))) r out d k
+    change-in d k = then-done _ (count_in own (ref (moved_to (move_of m)))) r out d k
 
 -- a step of k: the first i are made, and the others lead to what all come to
 module _ (k : ℕ) (f : Barrier → Res Barrier) (i : ℕ) (b : Barrier) (z : Res Barrier) (left : times (k - i) f b ≡ z) where

@@ -10,10 +10,6 @@ unfoldable pub times : {B : Type 0} → ℕ → (B → Res B) → B → Res B
 times zero f b = ok b
 times (suc k) f b = f b >>= times k f
 
--- a moved pointer of the nursery and its new base
-abbrev pub move_of : ℕ → ℕ → ℕ → Ptr × ℕ
-move_of b o new = (record { heap = 0; base = b; off = o }, new)
-
 -- a cell that held it counted out as it was, then in as it is
 unfoldable pub count_change : ℕ → Ptr × ℕ → Barrier → Res Barrier
 count_change own m b = count_out own (ref m.0) b >>= count_in own (ref (moved_to m))

@@ -5,30 +5,26 @@
 ghost use Rattle.std.specs.Prelude.{◌≡◌};
 ghost use Rattle.question.specs.Question.{answer};
 ghost use Rattle.barrier.specs.Counts.{barrier_of};
-ghost use Rattle.changes.specs.Changes.{times, move_of, count_change};
+ghost use Rattle.slots.specs.Slots.{move_of};
+ghost use Rattle.changes.specs.Changes.{times, count_change};
 
 use barrier::WriteBarrier;
 use question::Question;
+use slots::Move;
 use value::{Pointer, Value};
 
 // One such cell: (0, base, offset) out, then (1, new, 0) in.
-pub fn count_change(
-    own: u8,
-    base: u64,
-    offset: u64,
-    new: u64,
-    barrier: WriteBarrier,
-) -> Result<WriteBarrier, Question>
-    ensures { answer barrier_of result ≡ count_change own (move_of base offset new) (barrier_of barrier) }
+pub fn count_change(own: u8, moved: Move, barrier: WriteBarrier) -> Result<WriteBarrier, Question>
+    ensures { answer barrier_of result ≡ count_change own (move_of moved) (barrier_of barrier) }
 {
     let was = Pointer {
         heap: 0,
-        base,
-        offset: offset.cast_signed(),
+        base: moved.base,
+        offset: moved.offset.cast_signed(),
     };
     let is = Pointer {
         heap: 1,
-        base: new,
+        base: moved.new,
         offset: 0,
     };
     let less = barrier.count_out(own, Value::Pointer(was))?;
@@ -39,15 +35,13 @@ pub fn count_change(
 pub fn count_changes(
     k: usize,
     own: u8,
-    base: u64,
-    offset: u64,
-    new: u64,
+    moved: Move,
     mut barrier: WriteBarrier,
 ) -> Result<WriteBarrier, Question>
-    ensures { answer barrier_of result ≡ times k (count_change own (move_of base offset new)) (barrier_of barrier) }
+    ensures { answer barrier_of result ≡ times k (count_change own (move_of moved)) (barrier_of barrier) }
 {
     for _ in 0..k {
-        barrier = count_change(own, base, offset, new, barrier)?;
+        barrier = count_change(own, moved, barrier)?;
     }
     Ok(barrier)
 }

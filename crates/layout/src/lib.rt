@@ -14,10 +14,11 @@ ghost use Rattle.model.specs.Collector.{holds, swap_cell, read};
 ghost use Rattle.theorems.specs.Fit.{Image};
 ghost use Rattle.trace.specs.Words.{pointer, members};
 ghost use Rattle.words.specs.Source.{cells_from, count_of, whole_source};
-ghost use Rattle.slots.specs.Slots.{ReadBy, written};
+ghost use Rattle.slots.specs.Slots.{ReadBy, written, move_of};
 ghost use Rattle.layout.specs.Elder.{Turned, fit_answer, fit_for, fit_words};
 
 use question::Question;
+use slots::Move;
 use value::Words;
 use words::Source;
 
@@ -101,14 +102,13 @@ pub fn keep_members(image: &mut [u64], list: &[u64], count: usize)
 }
 
 // Each elder cell that is the pointer becomes (1, new, 0). Answers how many there were.
-pub fn swap_elder(image: &mut [u64], heap: u64, base: u64, offset: u64, new: u64) -> usize
-    requires image { Image image.old (decode image.old) }
-    requires heap_bound { heap < 2 }
-    ensures turned { Turned (map (map (swap_cell (pointer heap base offset, new)))) image.old image.new }
-    ensures value { result ≡ length (keep_if (holds (pointer heap base offset)) (flat (decode image.old).old.slots)) }
+pub fn swap_elder(image: &mut [u64], moved: Move) -> usize
+    requires { Image image.old (decode image.old) }
+    ensures turned { Turned (map (map (swap_cell (move_of moved)))) image.old image.new }
+    ensures value { result ≡ length (keep_if (holds (move_of moved).0) (flat (decode image.old).old.slots)) }
 {
     let l = places::layout_of(image);
     let from = l.slots;
     let at = l.old - from;
-    slots::swap_old(&mut image[from..], l.s, at, heap, base, offset, new)
+    slots::swap_old(&mut image[from..], l.s, at, moved)
 }

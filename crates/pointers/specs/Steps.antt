@@ -7,7 +7,8 @@ use Rattle.model.specs.Collector.{swap_cell, swap_young, swap_old}
 use Rattle.theorems.specs.Does.{with_young, with_old}
 use Rattle.theorems.specs.Apart.{swap_both}
 use Rattle.trace.specs.Words.{tab}
-use Rattle.changes.specs.Changes.{times, move_of, count_change}
+use Rattle.slots.specs.Slots.{move_of}
+use Rattle.changes.specs.Changes.{times, count_change}
 use Rattle.fields.specs.Fields.{bar_of, on_bar}
 
 -- the nursery's cells below the cursor changed, and nothing counted
@@ -41,7 +42,7 @@ changes_step ms h = each swap_both ms (h.young, h.old) >>= with_both h
 -- the moves that the words hold: base and offset in entries of three words, the new bases beside them
 
 unfoldable pub move_at : List ℕ → List ℕ → ℕ → Ptr × ℕ
-move_at list bases i = move_of (get_or list (3 * i + 1) 0) (get_or list (3 * i + 2) 0) (get_or bases i 0)
+move_at list bases i = move_of (record { base = get_or list (3 * i + 1) 0; offset = get_or list (3 * i + 2) 0; new = get_or bases i 0 })
 
 unfoldable pub moves_in : ℕ → List ℕ → List ℕ → List (Ptr × ℕ)
 moves_in n list bases = tab (move_at list bases) 0 n

@@ -2,7 +2,7 @@
 // change; and in roots. After a refusal the image's words are free, and whoever called puts the image back.
 #![tactic(auto)]
 
-ghost use Rattle.std.specs.Prelude.{◌≡◌, true, ◌*◌, ◌≤◌, length, take};
+ghost use Rattle.std.specs.Prelude.{◌≡◌, true, ◌+◌, ◌*◌, ◌≤◌, ◌<◌, length, take};
 ghost use Rattle.model.specs.Lists.{keep_if};
 ghost use Rattle.model.specs.Records.{cell_words, whole_cells};
 ghost use Rattle.model.specs.Image.{decode};
@@ -12,60 +12,68 @@ ghost use Rattle.theorems.specs.Fit.{Image};
 ghost use Rattle.theorems.specs.Does.{Does};
 ghost use Rattle.theorems.specs.Apart.{swap_roots};
 ghost use Rattle.question.specs.Question.{done_answer};
-ghost use Rattle.changes.specs.Changes.{move_of};
+ghost use Rattle.slots.specs.Slots.{move_of};
 ghost use Rattle.fields.specs.Fields.{Turns, on_young};
-ghost use Rattle.pointers.specs.Steps.{swapped_young, count_moved, change_step, changes_step, moves_in};
+ghost use Rattle.pointers.specs.Steps.{swapped_young, count_moved, change_step, changes_step, move_at, moves_in};
 
 use layout::places;
 use question::Question;
+use slots::Move;
 
 // ---- One pointer: (0, base, offset) becomes (1, new, 0)
 
 // In nursery cells below the cursor; how many held it.
-fn swap_young(image: &mut [u64], base: u64, offset: u64, new: u64) -> usize
+fn swap_young(image: &mut [u64], moved: Move) -> usize
     requires { Image image.old (decode image.old) }
-    ensures turns { Turns (on_young (swapped_young (move_of base offset new))) image.old image.new }
-    ensures value { result ≡ length (keep_if (holds (move_of base offset new).0) (take (decode image.old).young.cursor (decode image.old).young.cells)) }
+    ensures turns { Turns (on_young (swapped_young (move_of moved))) image.old image.new }
+    ensures value { result ≡ length (keep_if (holds (move_of moved).0) (take (decode image.old).young.cursor (decode image.old).young.cells)) }
 {
     let n = fields::header_of(image).cursor as usize;
     let l = places::layout_of(image);
     let from = l.young;
     let end = from + 3 * n;
-    slots::swap_cells(&mut image[from..end], n, 0, base, offset, new)
+    slots::swap_cells(&mut image[from..end], n, moved)
 }
 
 // So many such cells counted on the barrier of heap `own`. Without one the barrier, 256 words long, is not loaded.
-fn count(
-    image: &mut [u64],
-    own: u8,
-    k: usize,
-    base: u64,
-    offset: u64,
-    new: u64,
-) -> Result<(), Question>
+fn count(image: &mut [u64], own: u8, k: usize, moved: Move) -> Result<(), Question>
     requires { Image image.old (decode image.old) }
-    ensures { Does (count_moved own k (move_of base offset new)) image.old (done_answer result) image.new }
+    ensures { Does (count_moved own k (move_of moved)) image.old (done_answer result) image.new }
 {
     if k == 0 {
         return Ok(());
     }
-    let b = changes::count_changes(k, own, base, offset, new, fields::barrier_of(image, own))?;
+    let b = changes::count_changes(k, own, moved, fields::barrier_of(image, own))?;
     fields::put_barrier(image, own, b);
     Ok(())
 }
 
 // In both generations, the nursery first.
-pub fn change(image: &mut [u64], base: u64, offset: u64, new: u64) -> Result<(), Question>
+pub fn change(image: &mut [u64], moved: Move) -> Result<(), Question>
     requires { Image image.old (decode image.old) }
-    ensures { Does (change_step (move_of base offset new)) image.old (done_answer result) image.new }
+    ensures { Does (change_step (move_of moved)) image.old (done_answer result) image.new }
 {
-    let young = swap_young(image, base, offset, new);
-    count(image, 0, young, base, offset, new)?;
-    let old = layout::swap_elder(image, 0, base, offset, new);
-    count(image, 1, old, base, offset, new)
+    let young = swap_young(image, moved);
+    count(image, 0, young, moved)?;
+    let old = layout::swap_elder(image, moved);
+    count(image, 1, old, moved)
 }
 
 // ---- All of them: the first count entries of list, with the new base of each
+
+// The i-th.
+#[tactic(auto, unfolding(crate::specs::Steps::move_at))]
+fn move_at(list: &[u64], bases: &[u64], i: usize) -> Move
+    requires { (3 * i + 2 < length list.now) × (i < length bases.now) }
+    ensures { move_of result ≡ move_at list.now bases.now i }
+{
+    let at = 3 * i;
+    Move {
+        base: list[at + 1],
+        offset: list[at + 2],
+        new: bases[i],
+    }
+}
 
 // In both generations, pointer by pointer; the first refusal ends it.
 pub fn change_all(
@@ -79,8 +87,7 @@ pub fn change_all(
     ensures { Does (changes_step (moves_in count list.now bases.now)) image.old (done_answer result) image.new }
 {
     for i in 0..count {
-        let at = 3 * i;
-        change(image, list[at + 1], list[at + 2], bases[i])?;
+        change(image, move_at(list, bases, i))?;
     }
     Ok(())
 }
@@ -93,7 +100,6 @@ pub fn change_roots(roots: &mut [u64], list: &[u64], bases: &[u64], count: usize
 {
     let n = roots.len() / 3;
     for i in 0..count {
-        let at = 3 * i;
-        slots::swap_cells(roots, n, 0, list[at + 1], list[at + 2], bases[i]);
+        slots::swap_cells(roots, n, move_at(list, bases, i));
     }
 }

@@ -10,7 +10,6 @@ use native.Mathlib.Nat.{not-suc-le-zero, le_of_suc-le-suc}
 use native.Mathlib.Omega.{arith}
 use lib.ListN.{length, get_or, set, take, drop}
 use lib.Seq.{set-get_or, take-length, drop-length}
-use borrow.Author.Tests.{lt-ltb}
 use Rattle.model.specs.Lists.{cons_if, keep_if}
 use Rattle.model.specs.Records.{Ptr, Cell, plain, ref, blank, cell_words, cell_of, valid, all_valid, whole_cells, whole}
 use Rattle.model.specs.Collector.{moved_to, holds, swap_cell}
@@ -46,9 +45,9 @@ swap-yes m c e = rw (e, swap_cell)
 abbrev SwappedAt : Ptr × ℕ → ℕ → List Cell → List ℕ → Bool → Type 0
 SwappedAt m i cs v r = (v ≡ cell_words (set cs i (swap_cell m (get_or cs i blank)))) × (r ≡ holds m.0 (get_or cs i blank))
 
-module _ (h b o n i : ℕ) (w : List ℕ) (u : whole_cells w ≡ true) (l : i * 3 + 2 < length w) where
+module _ (b o n i : ℕ) (w : List ℕ) (u : whole_cells w ≡ true) (l : i * 3 + 2 < length w) where
   abbrev p : Ptr
-  p = pointer h b o
+  p = pointer 0 b o
 
   abbrev cs : List Cell
   cs = cells_in w
@@ -68,8 +67,8 @@ module _ (h b o n i : ℕ) (w : List ℕ) (u : whole_cells w ≡ true) (l : i * 
       let q : holds p c ≡ false = false_of (holds p c) (λ t. f (holds-is p c t)) in
       (rw (swap-no (p, n) c q, set-get_or cs i blank) (sym (whole_back w u)), sym q)
 
-  pub swap-kind : (get_or w (3 * i) 0 ≡ 5 + 256 * h → ⊥) → SwappedAt (p, n) i cs w false
-  swap-kind d = missed (λ t. d (kind_at cs [] w-is i inside ∙ ap kind_word t ∙ omega arith))
+  pub swap-kind : (get_or w (3 * i) 0 ≡ 5 → ⊥) → SwappedAt (p, n) i cs w false
+  swap-kind d = missed (λ t. d (kind_at cs [] w-is i inside ∙ ap kind_word t))
 
   pub swap-payload : (get_or w (3 * i + 1) 0 ≡ b → ⊥) → SwappedAt (p, n) i cs w false
   swap-payload d = missed (λ t. d (payload-at cs [] w-is i inside ∙ ap payload_word t))
@@ -77,14 +76,14 @@ module _ (h b o n i : ℕ) (w : List ℕ) (u : whole_cells w ≡ true) (l : i * 
   pub swap-offset : (get_or w (3 * i + 2) 0 ≡ o → ⊥) → SwappedAt (p, n) i cs w false
   swap-offset d = missed (λ t. d (offset_at cs [] w-is i inside ∙ ap offset_word t))
 
-  pub swap-hit : h < 2 → get_or w (3 * i) 0 ≡ 5 + 256 * h → get_or w (3 * i + 1) 0 ≡ b → get_or w (3 * i + 2) 0 ≡ o → SwappedAt (p, n) i cs (set (set (set w (3 * i) 261) (3 * i + 1) n) (3 * i + 2) 0) true
+  pub swap-hit : get_or w (3 * i) 0 ≡ 5 → get_or w (3 * i + 1) 0 ≡ b → get_or w (3 * i + 2) 0 ≡ o → SwappedAt (p, n) i cs (set (set (set w (3 * i) 261) (3 * i + 1) n) (3 * i + 2) 0) true
   unfolding moved_to whole valid holds
-  swap-hit g x y z =
-      let k : kind_word c ≡ h * 256 + 5 = sym (kind_at cs [] w-is i inside) ∙ x ∙ omega arith in
+  swap-hit x y z =
+      let k : kind_word c ≡ 5 = sym (kind_at cs [] w-is i inside) ∙ x in
       let q : c ≡ ref p =
       sym (cell-back c (valid-at cs i inside (whole-valid w u)))
       ∙ (λ j. cell_of (k j) ((sym (payload-at cs [] w-is i inside) ∙ y) j) ((sym (offset_at cs [] w-is i inside) ∙ z) j))
-      ∙ cell-back (ref p) (lt-ltb h 2 g) in
+      ∙ cell-back (ref p) refl in
       let t : holds p c ≡ true = rw q (same_ptr-refl p) in
       let stored : set (set (set w (3 * i) 261) (3 * i + 1) n) (3 * i + 2) 0 ≡ cell_words (set cs i (ref (moved_to (p, n)))) =
       ap (λ (a : List ℕ). set (set (set a (3 * i) 261) (3 * i + 1) n) (3 * i + 2) 0) (sym (whole_back w u)) ∙ put-cell cs i (ref (moved_to (p, n))) inside in

@@ -3,11 +3,12 @@ use Rattle.std.specs.Prelude.{◌≡◌, Option, Some, None, Bool, true, false, 
 use Rattle.std.proofs.Math.Seq.{paste}
 use Rattle.model.specs.Lists.{flat, sum}
 use Rattle.model.specs.Res.{Res, ok, refuse, ◌>>=◌, ask}
-use Rattle.model.specs.Records.{Cell, blank, cell_words, cell_of, cells_of, all_valid, valid_words}
+use Rattle.model.specs.Records.{Cell, Ptr, blank, cell_words, cell_of, cells_of, all_valid, valid_words}
 use Rattle.model.specs.Heap.{in_use}
 use Rattle.model.specs.Image.{cut}
 use Rattle.words.specs.Words.{padded}
 use Rattle.value.specs.declared.Words.{Words}
+use Rattle.slots.specs.declared.Move.{Move}
 
 -- the lengths and the cells' words hold the slots, packed in base order, the rest zero
 pub record Packed (ls ws : List ℕ) (slots : List (List Cell)) : Type 0 where
@@ -62,6 +63,10 @@ pub record ReadBy (m : Res Cell) (r : Option Words) : Type 0 where
 -- the cell of three words written at (b, o)
 abbrev pub written : ℕ → ℕ → List ℕ → List (List Cell) → List (List Cell)
 written b o cell slots = set slots b (set (get_or slots b []) o (cell_of (get_or cell 0 0) (get_or cell 1 0) (get_or cell 2 0)))
+
+-- a moved pointer of the nursery and its new base
+abbrev pub move_of : Move → Ptr × ℕ
+move_of m = (record { heap = 0; base = m.base; off = m.offset }, m.new)
 
 -- one slot of n words is kept, its words moved from src to dst, or dropped
 

@@ -11,9 +11,9 @@ ghost use Rattle.model.specs.Heap.{in_use};
 ghost use Rattle.model.specs.Elder.{keeps, keep};
 ghost use Rattle.model.specs.Collector.{holds, swap_cell};
 ghost use Rattle.model.specs.Calls.{cells_in};
-ghost use Rattle.trace.specs.Words.{pointer, members};
+ghost use Rattle.trace.specs.Words.{members};
 ghost use Rattle.words.specs.Source.{cells_from, count_of, whole_source};
-ghost use Rattle.slots.specs.Slots.{Packed, slots_of, slots_at, Elder, Changed, read_old, ReadBy, written, stepped, stepped_to, words_at};
+ghost use Rattle.slots.specs.Slots.{Packed, slots_of, slots_at, Elder, Changed, read_old, ReadBy, written, stepped, stepped_to, words_at, move_of};
 
 use value::Words;
 use words::Source;
@@ -86,37 +86,45 @@ pub fn write_old(w: &mut [u64], s: usize, at: usize, b: usize, o: usize, cell: &
 
 // ---- Cells that hold a pointer are changed; the words may be those of any valid cells
 
+// A moved pointer, (0, base, offset), and the new base: it becomes (1, new, 0). Only the nursery's move, so no heap stands here.
+#[derive(Clone, Copy)]
+pub struct Move {
+    pub base: u64,
+    pub offset: u64,
+    pub new: u64,
+}
+
 // The i-th cell becomes (1, new, 0) if it is the pointer. Answers whether it was.
-pub fn swap_at(cells: &mut [u64], i: usize, heap: u64, base: u64, offset: u64, new: u64) -> bool
-    requires { (i * 3 + 2 < length cells.old) × (whole_cells cells.old ≡ true) × (heap < 2) }
-    ensures cells_after { cells.new ≡ cell_words (set (cells_in cells.old) i (swap_cell (pointer heap base offset, new) (get_or (cells_in cells.old) i blank))) }
-    ensures value { result ≡ holds (pointer heap base offset) (get_or (cells_in cells.old) i blank) }
+pub fn swap_at(cells: &mut [u64], i: usize, moved: Move) -> bool
+    requires { (i * 3 + 2 < length cells.old) × (whole_cells cells.old ≡ true) }
+    ensures cells_after { cells.new ≡ cell_words (set (cells_in cells.old) i (swap_cell (move_of moved) (get_or (cells_in cells.old) i blank))) }
+    ensures value { result ≡ holds (move_of moved).0 (get_or (cells_in cells.old) i blank) }
 {
     let at = 3 * i;
-    if cells[at] != value::POINTER + value::HEAP_STEP * heap {
+    if cells[at] != value::POINTER {
         return false;
     }
-    if cells[at + 1] != base {
+    if cells[at + 1] != moved.base {
         return false;
     }
-    if cells[at + 2] != offset {
+    if cells[at + 2] != moved.offset {
         return false;
     }
     cells[at] = value::ELDER;
-    cells[at + 1] = new;
+    cells[at + 1] = moved.new;
     cells[at + 2] = 0;
     true
 }
 
 // The same of all n cells. Answers how many there were: each counts in a barrier.
-pub fn swap_cells(cells: &mut [u64], n: usize, heap: u64, base: u64, offset: u64, new: u64) -> usize
-    requires { (length cells.old ≡ n * 3) × (whole_cells cells.old ≡ true) × (heap < 2) }
-    ensures cells_after { cells.new ≡ cell_words (map (swap_cell (pointer heap base offset, new)) (cells_in cells.old)) }
-    ensures value { result ≡ length (keep_if (holds (pointer heap base offset)) (cells_in cells.old)) }
+pub fn swap_cells(cells: &mut [u64], n: usize, moved: Move) -> usize
+    requires { (length cells.old ≡ n * 3) × (whole_cells cells.old ≡ true) }
+    ensures cells_after { cells.new ≡ cell_words (map (swap_cell (move_of moved)) (cells_in cells.old)) }
+    ensures value { result ≡ length (keep_if (holds (move_of moved).0) (cells_in cells.old)) }
 {
     let mut hits: usize = 0;
     for i in 0..n {
-        if swap_at(cells, i, heap, base, offset, new) {
+        if swap_at(cells, i, moved) {
             hits += 1;
         }
     }
@@ -124,23 +132,14 @@ pub fn swap_cells(cells: &mut [u64], n: usize, heap: u64, base: u64, offset: u64
 }
 
 // The same of every cell of the elder.
-pub fn swap_old(
-    w: &mut [u64],
-    s: usize,
-    at: usize,
-    heap: u64,
-    base: u64,
-    offset: u64,
-    new: u64,
-) -> usize
-    requires elder { Elder s at w.old (slots_at s at w.old) }
-    requires heap_bound { heap < 2 }
-    ensures changed { Changed s at w.old w.new (map (map (swap_cell (pointer heap base offset, new))) (slots_at s at w.old)) }
-    ensures value { result ≡ length (keep_if (holds (pointer heap base offset)) (flat (slots_at s at w.old))) }
+pub fn swap_old(w: &mut [u64], s: usize, at: usize, moved: Move) -> usize
+    requires { Elder s at w.old (slots_at s at w.old) }
+    ensures changed { Changed s at w.old w.new (map (map (swap_cell (move_of moved))) (slots_at s at w.old)) }
+    ensures value { result ≡ length (keep_if (holds (move_of moved).0) (flat (slots_at s at w.old))) }
 {
     let used = in_use(&w[..s]);
     let end = at + 3 * used;
-    swap_cells(&mut w[at..end], used, heap, base, offset, new)
+    swap_cells(&mut w[at..end], used, moved)
 }
 
 // ---- Cells are placed

@@ -8,8 +8,8 @@ pub count-requires : goal.count-requires
 count-requires c = next-image c.swap_young-young.ensures.turns c.requires
 
 -- the nursery's cells changed and counted
-pub swap_elder-old-requires-clause-image : goal.swap_elder-old-requires-clause-image
-swap_elder-old-requires-clause-image c =
+pub swap_elder-old-requires : goal.swap_elder-old-requires
+swap_elder-old-requires c =
     let s = c.swap_young-young.ensures in
     does-image _ c.requires (young-changed _ s.turns s.value c.count.ensures) _ c.in_ok-count.was
 

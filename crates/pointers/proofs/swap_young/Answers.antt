@@ -18,7 +18,7 @@ slice_bounds-swap_cells-end c = end-inside c.layout_of-l.ensures c.header_of-n.e
 
 pub swap_cells-requires : goal.swap_cells-requires
 swap_cells-requires c =
-    (search rules, below-whole c.layout_of-l.ensures c.header_of-n.ensures.cursor c.requires, search rules)
+    (search rules, below-whole c.layout_of-l.ensures c.header_of-n.ensures.cursor c.requires)
 
 pub returns : goal.returns
 returns c = let all = (young-swapped c.layout_of-l.ensures c.header_of-n.ensures.cursor c.requires _ (c.swap_cells.ensures.cells_after, c.swap_cells.ensures.value)) in record { turns = all.0; value = all.1 }

@@ -1,6 +1,6 @@
-use Rattle.trace.specs.Words.{pointer}
+use Rattle.slots.specs.Slots.{move_of}
 use Rattle.slots.proofs.Swaps.{Swapping}
 use Rattle.slots.proofs.swap_cells.Given as goal
 
 abbrev pub invariant-loop-i : goal.invariant-loop-i
-invariant-loop-i l = Swapping (pointer l.heap l.base l.offset, l.new) l.n l.initial.cells l.cells l.hits l.i
+invariant-loop-i l = Swapping (move_of l.moved) l.n l.initial.cells l.cells l.hits l.i
