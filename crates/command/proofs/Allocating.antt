@@ -12,6 +12,7 @@ use borrow.Author.Tests.{le-leb}
 use Rattle.std.proofs.Common.{Result, Ok, Err}
 use Rattle.question.specs.Question.{number}
 use Rattle.question.specs.declared.Question.{Question}
+use Rattle.question.specs.declared.Question.TheVariants.{Heap as NoHeap}
 use Rattle.model.specs.Res.{Res, ok, refuse, ◌>>=◌}
 use Rattle.model.specs.Records.{Ptr, ref, valid, all_valid, cell_words, whole_cells, whole}
 use Rattle.model.specs.Image.{encode, decode}
@@ -74,9 +75,9 @@ module _ (w roots v roots' : List ℕ) where
       let same : p ≡ number q = cc in
       (ap refuse same, sym (ap (λ (o : Outcome). o.image) e))
 
-pub alloc-heapless : {w : List ℕ} {r r' : Registers} {a : Answer} (k amount : ℕ) → Held w → Good r → length w ≡ 0 → (a ≡ answer.Refused 14) × (r' ≡ r) → Acts (alloc k amount) w r a w r'
+pub alloc-heapless : {w : List ℕ} {r r' : Registers} {a : Result Answer Question} (k amount : ℕ) → Held w → Good r → length w ≡ 0 → (a ≡ Err NoHeap) × (r' ≡ r) → Acts (alloc k amount) w r a w r'
 unfolding step
-alloc-heapless {w} {r} k amount h g e = refuses h g (rw (no-heap w r e))
+alloc-heapless {w} {r} k amount h g e = refuses NoHeap h g (rw (no-heap w r e))
 
 -- what alloc is called with: an image that is held, the registers' words, n words of scratch
 pub record Lent (w : List ℕ) (r : Registers) (roots : List ℕ) (n : ℕ) : Type 0 where
@@ -104,17 +105,17 @@ module _ {w : List ℕ} {r : Registers} {roots : List ℕ} {n : ℕ} (l : Lent w
   step_is k = rw (the_heap_lem w r l.there)
 
   same-acts : {x : ModelAllocation} {a : Allocation} {v roots' : List ℕ} → alloc_in (decode w) (cells_of_registers r) amount ≡ ok x → Told ⊥ (decode w) (cells_of_registers r) x → Same x a v roots'
-      → (moved s : Registers) (k : ℕ) → cells_of_registers moved ≡ cells_in roots' → cells_of_registers s ≡ put (cells_of_registers moved) k (ref (pointer_of a.pointer)) → Good s → Acts (alloc k amount) w r (answer.Alloc a) v s
+      → (moved s : Registers) (k : ℕ) → cells_of_registers moved ≡ cells_in roots' → cells_of_registers s ≡ put (cells_of_registers moved) k (ref (pointer_of a.pointer)) → Good s → Acts (alloc k amount) w r (Ok (answer.Alloc a)) v s
   same-acts {x} gave told same moved s k from now good =
       let fit = good-heap-fit told.good in
       let back = words-in x.roots (valid-all x.roots told.roots-valid) in
       answers (rw (step_is k, gave, same.counts, same.image, heap-encoded fit, now, from, same.roots-are, back, same.pointer)) tt (rw same.image (held_after fit l.held l.there told.same_size)) good
 
   module _ (o : Result Allocation Question) (v roots' : List ℕ) (e : allocated w roots (alloc_on (decode w) roots n amount) ≡ alloc_outcome o v roots') where
-    pub alloc-refused : {q : Question} {b : Answer} {r' : Registers} (k : ℕ) → o ≡ Err q → (b ≡ answer.Refused (number q)) × (r' ≡ r) → Acts (alloc k amount) w r b v r'
-    alloc-refused k f s =
+    pub alloc-refused : {q : Question} {b : Result Answer Question} {r' : Registers} (k : ℕ) → o ≡ Err q → (b ≡ Err q) × (r' ≡ r) → Acts (alloc k amount) w r b v r'
+    alloc-refused {q} k f s =
         let (no_answer, same) = same-refusal w roots v roots' _ _ (ap (allocated w roots) (sym all_asked) ∙ e ∙ ap (λ (x : Result Allocation Question). alloc_outcome x v roots') f) in
-        rw same (refuses l.held l.good (rw (step_is k, no_answer)) s)
+        rw same (refuses q l.held l.good (rw (step_is k, no_answer)) s)
 
     module _ {a : Allocation} (f : o ≡ Ok a) where
       answered : (x : ModelAllocation) × (alloc_in (decode w) (cells_of_registers r) amount ≡ ok x) × Same x a v roots'
@@ -130,6 +131,6 @@ module _ {w : List ℕ} {r : Registers} {roots : List ℕ} {n : ℕ} (l : Lent w
       unfolding valid value_cell
       pointer-good s = record { cell = rw (ap (λ (p : Ptr). p.heap) answered.2.pointer) (holds_at (new-valid (decode w) (cells_of_registers r) amount) answered.1); whole = tt; ranged = s }
 
-      pub alloc-acts : (moved s : Registers) (k : ℕ) → cells_of_registers moved ≡ cells_in roots' → Good moved → SFits w64 a.pointer.offset → s.cells ≡ put moved.cells k (Pointer a.pointer) → Acts (alloc k amount) w r (answer.Alloc a) v s
+      pub alloc-acts : (moved s : Registers) (k : ℕ) → cells_of_registers moved ≡ cells_in roots' → Good moved → SFits w64 a.pointer.offset → s.cells ≡ put moved.cells k (Pointer a.pointer) → Acts (alloc k amount) w r (Ok (answer.Alloc a)) v s
       unfolding value_cell
       alloc-acts moved s k from good fits now = same-acts answered.1 told answered.2 moved s k from (set-cells moved s k (Pointer a.pointer) now) (set-good moved s k (Pointer a.pointer) now good (pointer-good fits))

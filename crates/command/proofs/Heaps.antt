@@ -1,11 +1,16 @@
 -- The state's heap: whether there is one, and what keeps its words an image within the program's limits.
-use mathlib.Core.Path.{◌≡◌, refl, ap}
-use mathlib.Core.Bool.{true}
+use mathlib.Core.Path.{◌≡◌, refl, sym, ap, ◌∙◌}
+use mathlib.Core.Bool.{Bool, true, false}
 use mathlib.Core.List.{List, [], ◌∷◌}
 use mathlib.Core.Option.{some}
 use Prim.Native.Nat.{ℕ, ◌<◌}
 use native.Mathlib.Omega.{arith}
+use lib.Dec.{eqb}
 use lib.ListN.{length}
+use borrow.Author.Tests.{eqb-true, eqb-false}
+use Rattle.std.specs.Prelude.{Result, Err}
+use Rattle.question.specs.Question.{number}
+use Rattle.question.specs.declared.Question.{Question}
 use Rattle.model.specs.Res.{ok, refuse}
 use Rattle.model.specs.Heap.{Heap}
 use Rattle.model.specs.Image.{encode, decode}
@@ -16,12 +21,18 @@ use Rattle.theorems.proofs.Image.{decode-encode, encode-sized, encode-formed, im
 use Rattle.registers.specs.declared.Registers.{Registers}
 use Rattle.registers.specs.Cells.{cells_of_registers, Good}
 use Rattle.command.specs.declared.answers.Answer.{Answer}
-use Rattle.command.specs.declared.answers.Answer.TheVariants.{Refused}
 use Rattle.command.specs.Answers.{answer_line, GoodAnswer}
 use Rattle.command.specs.State.{heap_in, state_of, Held}
 use Rattle.command.specs.Steps.{Acts}
 
 -- 14
+
+module _ {b : Bool} (w : List ℕ) (e : b ≡ eqb (length w) 0) where
+  pub none_there : b ≡ true → length w ≡ 0
+  none_there t = eqb-true (length w) 0 (sym e ∙ t)
+
+  pub some_there : b ≡ false → 0 < length w
+  some_there f = omega (arith, eqb-false (length w) 0 (sym e ∙ f))
 
 pub no-heap : (w : List ℕ) (r : Registers) → length w ≡ 0 → the_heap (state_of w r) ≡ refuse 14
 unfolding the_heap state_of heap_in
@@ -39,12 +50,12 @@ heap-there [] r h = absurd (omega arith)
 heap-there (x ∷ w) r h = refl
 
 -- a refusal leaves the state
-pub refuses : {c : Command} {w : List ℕ} {r r' : Registers} {a : Answer} {q : ℕ} → Held w → Good r → step c (state_of w r) ≡ refuse q → (a ≡ Refused q) × (r' ≡ r) → Acts c w r a w r'
+pub refuses : {c : Command} {w : List ℕ} {r r' : Registers} {a : Result Answer Question} (q : Question) → Held w → Good r → step c (state_of w r) ≡ refuse (number q) → (a ≡ Err q) × (r' ≡ r) → Acts c w r a w r'
 unfolding stepped
-refuses h g e (is, same) = rw (is, same) (record { stepping = rw e; whole = tt; held = h; good = g })
+refuses q h g e (is, same) = rw (is, same) (record { stepping = rw e; whole = tt; held = h; good = g })
 
 -- the model's state made anew is that of the words and registers that are left
-pub answers : {c : Command} {w : List ℕ} {r : Registers} {a : Answer} {v : List ℕ} {r' : Registers} → step c (state_of w r) ≡ ok (answer_line a, holding (heap_in v) (cells_of_registers r') (state_of w r)) → GoodAnswer a → Held v → Good r' → Acts c w r a v r'
+pub answers : {c : Command} {w : List ℕ} {r : Registers} {a : Result Answer Question} {v : List ℕ} {r' : Registers} → step c (state_of w r) ≡ ok (answer_line a, holding (heap_in v) (cells_of_registers r') (state_of w r)) → GoodAnswer a → Held v → Good r' → Acts c w r a v r'
 unfolding stepped holding state_of
 answers e u h g = record { stepping = rw e; whole = u; held = h; good = g }
 

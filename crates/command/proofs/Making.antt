@@ -22,6 +22,7 @@ use Rattle.theorems.proofs.Lists.{eqb_same}
 use Rattle.theorems.proofs.Kept.{refused-ok}
 use Rattle.theorems.proofs.Program.{limits-bound, limited-image}
 use Rattle.question.specs.declared.Question.{Question}
+use Rattle.question.specs.declared.Question.TheVariants.{Sizes as SizesNo}
 use Rattle.image.specs.Answers.{made_outcome}
 use Rattle.registers.specs.declared.Registers.{Registers}
 use Rattle.registers.specs.Cells.{Good}
@@ -33,7 +34,7 @@ use Rattle.command.specs.Steps.{Acts, Performs}
 use Rattle.command.proofs.Heaps.{answers, held_none, heap-encoded, held-image}
 
 -- the first k words of a buffer become v
-pub performs-front : (buffer : List ℕ) (s : State) {c : Command} {v : List ℕ} {a : Answer} {r : Registers} {k : ℕ} → k ≤ length buffer → length v ≡ k
+pub performs-front : (buffer : List ℕ) (s : State) {c : Command} {v : List ℕ} {a : Result Answer Question} {r : Registers} {k : ℕ} → k ≤ length buffer → length v ≡ k
     → Acts c (take s.words buffer) s.registers a v r → Performs c buffer s a (v ++ drop k buffer) (holding k r)
 performs-front buffer s {v = v} {k = k} fits long acts =
     let front : take k (v ++ drop k buffer) ≡ v = take_at v (drop k buffer) k long in
@@ -42,7 +43,7 @@ performs-front buffer s {v = v} {k = k} fits long acts =
 
 module _ (buffer : List ℕ) (z : Sizes) where
   -- 1
-  pub make-refused : program_bounds z ≡ false → (r : Registers) → Good r → Performs (new z) buffer (heapless r) (answer.Refused 1) buffer (heapless r)
+  pub make-refused : program_bounds z ≡ false → (r : Registers) → Good r → Performs (new z) buffer (heapless r) (Err SizesNo) buffer (heapless r)
   unfolding step stepped no_heap state_of heap_in
   make-refused e r g = record { stepping = rw e; whole = tt; ready = record { within = zero-le; held = held_none; good = g } }
 
@@ -69,7 +70,7 @@ module _ (buffer : List ℕ) (z : Sizes) where
         unfolding made_outcome left
         make-always f = refused-ok (ap (λ (o : Outcome). o.answer) (ap (λ (x : Result (Unit {0}) Question). made_outcome x v) (sym f) ∙ newly))
 
-        pub make-done : m ≡ Ok tt → (r : Registers) → Good r → Performs (new z) buffer (heapless r) answer.New (v ++ drop k buffer) (holding k r)
+        pub make-done : m ≡ Ok tt → (r : Registers) → Good r → Performs (new z) buffer (heapless r) (Ok answer.New) (v ++ drop k buffer) (holding k r)
         unfolding step no_heap state_of heap_in made_outcome left fresh
         make-done f r g =
             let fit : Fit (fresh z) = fresh-fit z (limits-bound z e) in

@@ -8,6 +8,9 @@ use lib.ListN.{length, take}
 use lib.Seq.{length-take-le}
 use lib.Dec.{leb}
 use borrow.Author.Tests.{leb-true}
+use Rattle.std.specs.Prelude.{Result, Err}
+use Rattle.question.specs.declared.Question.{Question}
+use Rattle.question.specs.declared.Question.TheVariants.{Heap}
 use Rattle.model.specs.Lists.{all_at_most}
 use Rattle.model.specs.Heap.{Sizes}
 use Rattle.model.specs.Command.{Command, new}
@@ -19,7 +22,6 @@ use Rattle.reader.specs.declared.Command.TheVariants as variants
 use Rattle.registers.specs.declared.Registers.{Registers}
 use Rattle.registers.specs.Cells.{Good}
 use Rattle.command.specs.declared.answers.Answer.{Answer}
-use Rattle.command.specs.declared.answers.Answer.TheVariants.{Refused}
 use Rattle.command.specs.declared.State.{State}
 use Rattle.command.specs.State.{Held, heapless}
 use Rattle.command.specs.Steps.{is_new, Acts, Performs}
@@ -29,9 +31,9 @@ pub first_below : (r : ℕ) (rs : List ℕ) → all_at_most 15 (r ∷ rs) ≡ tr
 unfolding all_at_most
 first_below r rs e = let (few, rest) = and_parts (leb r 15) (all_at_most 15 rs) e in (omega (arith, leb-true r 15 few), rest)
 
-pub new-refused : (z : Sizes) {w : List ℕ} {r r' : Registers} {a : Answer} → Held w → Good r → 0 < length w → (a ≡ Refused 14) × (r' ≡ r) → Acts (new z) w r a w r'
+pub new-refused : (z : Sizes) {w : List ℕ} {r r' : Registers} {a : Result Answer Question} → Held w → Good r → 0 < length w → (a ≡ Err Heap) × (r' ≡ r) → Acts (new z) w r a w r'
 unfolding step
-new-refused z {w} {r} h g pos = refuses h g (rw (heap-there w r pos))
+new-refused z {w} {r} h g pos = refuses Heap h g (rw (heap-there w r pos))
 
 -- a command that is no `new`
 pub not_new : (x : command.Command) → ((n t s c : ℕ) → x ≡ variants.New n t s c → ⊥) → is_new (model_command x) ≡ true → ⊥
@@ -48,8 +50,8 @@ heap-lent k buffer l h = omega (arith, length-take-le k buffer l)
 
 -- a state of no words is heapless
 
-pub heapless-performs : {c : Command} {buffer buffer' : List ℕ} {s s' : State} {a : Answer} → s.words ≡ 0 → Performs c buffer (heapless s.registers) a buffer' s' → Performs c buffer s a buffer' s'
+pub heapless-performs : {c : Command} {buffer buffer' : List ℕ} {s s' : State} {a : Result Answer Question} → s.words ≡ 0 → Performs c buffer (heapless s.registers) a buffer' s' → Performs c buffer s a buffer' s'
 heapless-performs {c} {buffer} {buffer'} {s} {s'} {a} e = subst (λ (x : State). Performs c buffer x a buffer' s') (λ i. record { words = sym e i; registers = s.registers })
 
-pub heapless-stays : {c : Command} {buffer buffer' : List ℕ} {s : State} {a : Answer} → s.words ≡ 0 → Performs c buffer (heapless s.registers) a buffer' (heapless s.registers) → Performs c buffer s a buffer' s
+pub heapless-stays : {c : Command} {buffer buffer' : List ℕ} {s : State} {a : Result Answer Question} → s.words ≡ 0 → Performs c buffer (heapless s.registers) a buffer' (heapless s.registers) → Performs c buffer s a buffer' s
 heapless-stays {c} {buffer} {buffer'} {s} {a} e = subst (λ (x : State). Performs c buffer x a buffer' x) (λ i. record { words = sym e i; registers = s.registers })

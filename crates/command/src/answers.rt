@@ -1,10 +1,9 @@
-// What a command is answered.
+// What a command is answered that is not refused.
 use collector::Allocation;
 use figure::Figure;
 use report::Statistics;
 use value::Value;
 
-// Refused has the number of the question that got a no.
 #[derive(Clone, Copy)]
 pub enum Answer {
     New,
@@ -14,5 +13,4 @@ pub enum Answer {
     Store,
     Report(Statistics),
     Figure(Figure),
-    Refused(u64),
 }

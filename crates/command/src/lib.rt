@@ -40,7 +40,7 @@ fn set_register(
     tag: u64,
     payload: u64,
     offset: u64,
-) -> Answer
+) -> Result<Answer, Question>
     requires { (register < 16) × Good registers.old }
     ensures { (w : List ℕ) → Held w → Acts (set register tag payload offset) w registers.old result w registers.new }
 {
@@ -49,25 +49,21 @@ fn set_register(
         payload,
         offset,
     };
-    if !w.is_valid() {
-        return Answer::Refused(3);
-    }
-    registers.set(register, w.value());
-    Answer::Set
+    let v = Value::try_from(w)?;
+    registers.set(register, v);
+    Ok(Answer::Set)
 }
 
 // Only a Float has a figure: 15.
-fn take_figure(registers: &Registers, register: usize) -> Answer
+fn take_figure(registers: &Registers, register: usize) -> Result<Answer, Question>
     requires { (register < 16) × Good registers.now }
     ensures { (w : List ℕ) → Held w → Acts (figure register) w registers.now result w registers.now }
 {
     let Value::Float { number, .. } = registers.get(register) else {
-        return Answer::Refused(15);
+        return Err(Question::Figure);
     };
-    match figure::figure_of(number) {
-        Ok(f) => Answer::Figure(f),
-        Err(q) => Answer::Refused(q.number()),
-    }
+    let f = figure::figure_of(number)?;
+    Ok(Answer::Figure(f))
 }
 
 // ---- Alloc
@@ -79,24 +75,20 @@ fn alloc_in(
     registers: &mut Registers,
     register: usize,
     amount: i64,
-) -> Answer
+) -> Result<Answer, Question>
     requires held { Held image.old }
     requires program_scratch_in_bounds { program_scratch ≤ length scratch.old }
     requires register_bound { (register < 16) × Good registers.old }
     ensures { Acts (alloc register (of_z w64 amount)) image.old registers.old result image.new registers.new }
 {
-    if image.len() == 0 {
-        return Answer::Refused(14);
+    if image.is_empty() {
+        return Err(Question::Heap);
     }
     let mut roots = registers.words();
-    match collector::alloc_formed(image, &mut roots, scratch, amount) {
-        Ok(a) => {
-            *registers = Registers::from_words(&roots);
-            registers.set(register, Value::Pointer(a.pointer));
-            Answer::Alloc(a)
-        }
-        Err(q) => Answer::Refused(q.number()),
-    }
+    let a = collector::alloc_formed(image, &mut roots, scratch, amount)?;
+    *registers = Registers::from_words(&roots);
+    registers.set(register, Value::Pointer(a.pointer));
+    Ok(Answer::Alloc(a))
 }
 
 // ---- Load and store
@@ -119,58 +111,46 @@ fn target_of(v: Value, offset: i64) -> Result<Pointer, Question>
 }
 
 // The value goes to answer and register as it was read.
-fn load_in(image: &[u64], registers: &mut Registers, a: Access) -> Answer
+fn load_in(image: &[u64], registers: &mut Registers, a: Access) -> Result<Answer, Question>
     requires held { Held image.now }
     requires register_bound { (a.register < 16) × (a.pointer < 16) × Good registers.old }
     ensures { Acts (load a.register a.pointer (of_z w64 a.offset)) image.now registers.old result image.now registers.new }
 {
-    if image.len() == 0 {
-        return Answer::Refused(14);
+    if image.is_empty() {
+        return Err(Question::Heap);
     }
-    match target_of(registers.get(a.pointer as usize), a.offset) {
-        Ok(p) => match access::read_formed(image, p) {
-            Ok(v) => {
-                registers.set(a.register as usize, v);
-                Answer::Load(v)
-            }
-            Err(q) => Answer::Refused(q.number()),
-        },
-        Err(q) => Answer::Refused(q.number()),
-    }
+    let p = target_of(registers.get(a.pointer as usize), a.offset)?;
+    let v = access::read_formed(image, p)?;
+    registers.set(a.register as usize, v);
+    Ok(Answer::Load(v))
 }
 
-fn store_in(image: &mut [u64], registers: &Registers, a: Access) -> Answer
+fn store_in(image: &mut [u64], registers: &Registers, a: Access) -> Result<Answer, Question>
     requires held { Held image.old }
     requires register_bound { (a.register < 16) × (a.pointer < 16) × Good registers.now }
     ensures { Acts (store a.register a.pointer (of_z w64 a.offset)) image.old registers.now result image.new registers.now }
 {
-    if image.len() == 0 {
-        return Answer::Refused(14);
+    if image.is_empty() {
+        return Err(Question::Heap);
     }
     let w = Words::from(registers.get(a.register as usize));
     let cell = [w.tag, w.payload, w.offset];
-    match target_of(registers.get(a.pointer as usize), a.offset) {
-        Ok(p) => match access::write_formed(image, p, &cell) {
-            Ok(()) => Answer::Store,
-            Err(q) => Answer::Refused(q.number()),
-        },
-        Err(q) => Answer::Refused(q.number()),
-    }
+    let p = target_of(registers.get(a.pointer as usize), a.offset)?;
+    access::write_formed(image, p, &cell)?;
+    Ok(Answer::Store)
 }
 
 // ---- Report
 
-fn report_in(image: &mut [u64]) -> Answer
+fn report_in(image: &mut [u64]) -> Result<Answer, Question>
     requires held { Held image.old }
     ensures { (registers : Registers) → Good registers → Acts report_command image.old registers result image.new registers }
 {
-    if image.len() == 0 {
-        return Answer::Refused(14);
+    if image.is_empty() {
+        return Err(Question::Heap);
     }
-    match report::report_lent_formed(image) {
-        Ok(s) => Answer::Report(s),
-        Err(q) => Answer::Refused(q.number()),
-    }
+    let s = report::report_lent_formed(image)?;
+    Ok(Answer::Report(s))
 }
 
 // ---- New
@@ -212,7 +192,7 @@ fn act(
     scratch: &mut [u64],
     registers: &mut Registers,
     command: Command,
-) -> Answer
+) -> Result<Answer, Question>
     requires held { Held image.old × Good registers.old }
     requires program_scratch_in_bounds { program_scratch ≤ length scratch.old }
     requires command_value { all_at_most 15 (registers_of (model_command command)) ≡ true }
@@ -220,7 +200,7 @@ fn act(
     ensures { Acts (model_command command) image.old registers.old result image.new registers.new }
 {
     match command {
-        Command::New { .. } => Answer::Refused(14),
+        Command::New { .. } => Err(Question::Heap),
         Command::Alloc { register, amount } => alloc_in(
             image,
             scratch,
@@ -243,7 +223,12 @@ fn act(
 
 impl State {
     // The buffer has room for every heap of the program, scratch for its every alloc.
-    pub fn perform(&mut self, buffer: &mut [u64], scratch: &mut [u64], command: Command) -> Answer
+    pub fn perform(
+        &mut self,
+        buffer: &mut [u64],
+        scratch: &mut [u64],
+        command: Command,
+    ) -> Result<Answer, Question>
         requires ready { Ready buffer.old self.old }
         requires program_words_in_bounds { (program_words ≤ length buffer.old) × (program_scratch ≤ length scratch.old) }
         requires command_value { all_at_most 15 (registers_of (model_command command)) ≡ true }
@@ -251,13 +236,8 @@ impl State {
     {
         if self.words == 0 {
             if let Command::New { n, t, s, c } = command {
-                return match make(buffer, n as u64, t as u64, s as u64, c as u64) {
-                    Ok(words) => {
-                        self.words = words;
-                        Answer::New
-                    }
-                    Err(q) => Answer::Refused(q.number()),
-                };
+                self.words = make(buffer, n as u64, t as u64, s as u64, c as u64)?;
+                return Ok(Answer::New);
             }
         }
         act(

@@ -2,7 +2,7 @@
 // it was, and returns the place behind its text.
 #![tactic(auto)]
 
-ghost use Rattle.std.specs.Prelude.{◌≡◌, ◌+◌, ◌*◌, ◌≤◌, length};
+ghost use Rattle.std.specs.Prelude.{◌≡◌, ◌+◌, ◌*◌, ◌≤◌, length, Ok};
 ghost use Rattle.model.specs.Run.{no_line};
 ghost use Rattle.model.specs.Listing.{spaced, cell_text, line_text, line};
 ghost use Rattle.value.specs.Value.{value_cell};
@@ -14,6 +14,7 @@ ghost use Rattle.lines.specs.Longest.{longest_spaced, longest_text, longest_line
 use collector::Allocation;
 use command::Answer;
 use figure::Figure;
+use question::Question;
 use report::Statistics;
 use value::{Value, Words};
 
@@ -58,7 +59,7 @@ fn cell_numbers(v: Value) -> [u64; 4]
 // The pointer, its offset signed, then the four counts.
 fn alloc_text(a: Allocation, out: &mut [u8], at: usize) -> usize
     requires { at + longest_text ≤ length out.old }
-    ensures { Wrote (line_text (answer_line (Alloc a))) out.old at out.new result }
+    ensures { Wrote (line_text (answer_line (Ok (Alloc a)))) out.old at out.new result }
 {
     let p = a.pointer;
     let young = a.nursery;
@@ -76,7 +77,7 @@ fn alloc_text(a: Allocation, out: &mut [u8], at: usize) -> usize
 
 fn load_text(v: Value, out: &mut [u8], at: usize) -> usize
     requires { at + longest_text ≤ length out.old }
-    ensures { Wrote (line_text (answer_line (Load v))) out.old at out.new result }
+    ensures { Wrote (line_text (answer_line (Ok (Load v)))) out.old at out.new result }
 {
     let n = cell_numbers(v);
     let cell = word(b"load", out, at);
@@ -85,7 +86,7 @@ fn load_text(v: Value, out: &mut [u8], at: usize) -> usize
 
 fn report_text(s: Statistics, out: &mut [u8], at: usize) -> usize
     requires { at + longest_text ≤ length out.old }
-    ensures { Wrote (line_text (answer_line (Report s))) out.old at out.new result }
+    ensures { Wrote (line_text (answer_line (Ok (Report s)))) out.old at out.new result }
 {
     let n = <[u64; 11]>::from(s);
     let rest = word(b"report", out, at);
@@ -94,7 +95,7 @@ fn report_text(s: Statistics, out: &mut [u8], at: usize) -> usize
 
 fn figure_text(f: Figure, out: &mut [u8], at: usize) -> usize
     requires { at + longest_text ≤ length out.old }
-    ensures { Wrote (line_text (answer_line (FigureOf f))) out.old at out.new result }
+    ensures { Wrote (line_text (answer_line (Ok (FigureOf f)))) out.old at out.new result }
 {
     let space = word(b"figure", out, at);
     let number = figure::text::byte(b' ', out, space);
@@ -109,23 +110,23 @@ fn refusal_text(q: u64, out: &mut [u8], at: usize) -> usize
     figure::text::spaced(q, out, number)
 }
 
-fn text(answer: Answer, out: &mut [u8], at: usize) -> usize
+fn text(answer: Result<Answer, Question>, out: &mut [u8], at: usize) -> usize
     requires { at + longest_text ≤ length out.old }
     ensures { Wrote (line_text (answer_line answer)) out.old at out.new result }
 {
     match answer {
-        Answer::New => word(b"new", out, at),
-        Answer::Alloc(a) => alloc_text(a, out, at),
-        Answer::Set => word(b"set", out, at),
-        Answer::Load(v) => load_text(v, out, at),
-        Answer::Store => word(b"store", out, at),
-        Answer::Report(s) => report_text(s, out, at),
-        Answer::Figure(f) => figure_text(f, out, at),
-        Answer::Refused(q) => refusal_text(q, out, at),
+        Ok(Answer::New) => word(b"new", out, at),
+        Ok(Answer::Alloc(a)) => alloc_text(a, out, at),
+        Ok(Answer::Set) => word(b"set", out, at),
+        Ok(Answer::Load(v)) => load_text(v, out, at),
+        Ok(Answer::Store) => word(b"store", out, at),
+        Ok(Answer::Report(s)) => report_text(s, out, at),
+        Ok(Answer::Figure(f)) => figure_text(f, out, at),
+        Err(q) => refusal_text(q.number(), out, at),
     }
 }
 
-pub fn line(number: u64, answer: Answer, out: &mut [u8], at: usize) -> usize
+pub fn line(number: u64, answer: Result<Answer, Question>, out: &mut [u8], at: usize) -> usize
     requires { at + longest_line ≤ length out.old }
     ensures { Wrote (line number (answer_line answer)) out.old at out.new result }
 {

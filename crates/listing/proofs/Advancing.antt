@@ -12,9 +12,11 @@ use Rattle.model.specs.Res.{ok, refuse}
 use Rattle.model.specs.Command.{Command}
 use Rattle.model.specs.Run.{State as ModelState, Line, no_line, step, stepped}
 use Rattle.model.specs.Listing.{line, lines_from}
+use Rattle.std.specs.Prelude.{Result, Err}
+use Rattle.question.specs.declared.Question.{Question}
+use Rattle.question.specs.declared.Question.TheVariants.{Command as Malformed}
 use Rattle.command.specs.declared.answers.Answer.{Answer}
 use Rattle.command.specs.declared.State.{State}
-use Rattle.command.specs.declared.answers.Answer.TheVariants.{Refused}
 use Rattle.command.specs.State.{state_in}
 use Rattle.command.specs.Steps.{Performs}
 use Rattle.listing.specs.declared.Run.{Run}
@@ -39,7 +41,7 @@ left-none file n s = rw (commands-none file)
 -- A step, by what stands there
 
 module _ {file buffer : List ℕ} {r : Run} (g : Going file buffer r) (h : r.at < length file) where
-  pub step-command : {c : Command} {k : ℕ} {a : Answer} {s : State} {buffer' : List ℕ} → ok (some (c, k)) ≡ stands_at file r.at → Performs c buffer r.state a buffer' s → Answers file buffer r a buffer' (record { at = k; number = r.number + 1; state = s })
+  pub step-command : {c : Command} {k : ℕ} {a : Result Answer Question} {s : State} {buffer' : List ℕ} → ok (some (c, k)) ≡ stands_at file r.at → Performs c buffer r.state a buffer' s → Answers file buffer r a buffer' (record { at = k; number = r.number + 1; state = s })
   unfolding left_of listing_from
   step-command {c = c} {k = k} e p =
       let t = stood file r.at h e in
@@ -49,7 +51,7 @@ module _ {file buffer : List ℕ} {r : Run} (g : Going file buffer r) (h : r.at 
         going = record { within = t.0.within; counted = omega (arith, g.counted, t.0.further); ready = p.ready };
       }
 
-  pub step-malformed : {q : ℕ} → refuse q ≡ stands_at file r.at → Answers file buffer r (Refused 12) buffer (record { at = length file; number = r.number + 1; state = r.state })
+  pub step-malformed : {q : ℕ} → refuse q ≡ stands_at file r.at → Answers file buffer r (Err Malformed) buffer (record { at = length file; number = r.number + 1; state = r.state })
   unfolding left_of
   step-malformed e = record {
     listed = rw (left-none file (r.number + 1) (state_in buffer r.state), left-malformed file r.at r.number (state_in buffer r.state) h (stood file r.at h e)) (append-nil (line r.number (no_line 12)));

@@ -1,11 +1,12 @@
 -- What is still to be printed of a file's listing, and what a run has printed of it.
-use Rattle.std.specs.Prelude.{◌≡◌, Bool, true, false, List, [], ◌∷◌, ◌++◌, ℕ, ◌+◌, ◌≤◌, ◌<◌, leb, length, take, drop}
+use Rattle.std.specs.Prelude.{◌≡◌, Bool, true, false, List, [], ◌∷◌, ◌++◌, ℕ, ◌+◌, ◌≤◌, ◌<◌, leb, length, take, drop, Result}
 use Rattle.std.proofs.Math.Option.{Option, none}
 use Rattle.model.specs.Lists.{flat}
 use Rattle.model.specs.Res.{Res, ok, refuse}
 use Rattle.model.specs.Command.{Command, parse_all}
 use Rattle.model.specs.Run.{State}
 use Rattle.model.specs.Listing.{line, lines_from, longest_file, listing}
+use Rattle.question.specs.declared.Question.{Question}
 use Rattle.figure.specs.Written.{Wrote}
 use Rattle.reader.specs.Answer.{next_at}
 use Rattle.command.specs.declared.answers.Answer.{Answer}
@@ -45,7 +46,7 @@ pub record Going (file buffer : List ℕ) (r : Run) : Type 0 where
   pub ready : Ready buffer r.state
 
 -- one command's answer: its line stood before what is left now
-pub record Answers (file buffer : List ℕ) (r : Run) (a : Answer) (buffer' : List ℕ) (r' : Run) : Type 0 where
+pub record Answers (file buffer : List ℕ) (r : Run) (a : Result Answer Question) (buffer' : List ℕ) (r' : Run) : Type 0 where
   pub listed : line r.number (answer_line a) ++ left_of file buffer' r' ≡ left_of file buffer r
   pub further : r.at < r'.at
   pub going : Going file buffer' r'

@@ -55,7 +55,12 @@ fn stands_at(file: &[u8], at: usize) -> Option<Result<(Command, usize), Question
 }
 
 // One command: its answer, and the run behind it.
-fn step(file: &[u8], buffer: &mut [u64], scratch: &mut [u64], run: &mut Run) -> Answer
+fn step(
+    file: &[u8],
+    buffer: &mut [u64],
+    scratch: &mut [u64],
+    run: &mut Run,
+) -> Result<Answer, Question>
     requires going { Going file.now buffer.old run.old }
     requires at_in_bounds { run.old.at < length file.now }
     requires program_words_in_bounds { (program_words ≤ length buffer.old) × (program_scratch ≤ length scratch.old) }
@@ -69,7 +74,7 @@ fn step(file: &[u8], buffer: &mut [u64], scratch: &mut [u64], run: &mut Run) -> 
         }
         Err(_) => {
             run.at = file.len();
-            Answer::Refused(12)
+            Err(Question::Command)
         }
     }
 }

@@ -1,4 +1,5 @@
 use mathlib.Core.Path.{refl}
+use borrow.Author.Rules.{rules}
 use mathlib.Core.List.{[], ◌∷◌}
 use mir.Syntax.{w64}
 use mir.ValLaws.{to_z-of_z}
@@ -48,7 +49,7 @@ returns-in-New c =
 
 pub returns-in-Alloc : goal.returns-in-Alloc
 returns-in-Alloc c =
-    rw c.in-Alloc.is (rw (to_z-of_z w64 c.in-Alloc.amount (record { sfits = c.in-Alloc.known_told-1-own.given.1.0.1 })) at c.alloc_in.ensures)
+    rw c.in-Alloc.is (rw (to_z-of_z w64 c.in-Alloc.amount (search rules)) at c.alloc_in.ensures)
 
 pub returns-in-Set : goal.returns-in-Set
 returns-in-Set c = rw c.in-Set.is (c.set_register.ensures _ c.requires.held.0)

@@ -1,13 +1,11 @@
-use mathlib.Core.Path.{refl, sym, ◌∙◌}
+use mathlib.Core.Path.{refl}
+use Rattle.question.proofs.Passing.{refused_as}
 use Rattle.command.proofs.Stepping.{set-refused, set-done}
 use Rattle.command.proofs.set_register.Goals as goal
 
-pub returns-then-not-is_valid : goal.returns-then-not-is_valid
-returns-then-not-is_valid c w h = set-refused h c.requires.1 (sym c.is_valid.ensures ∙ c.if-not-is_valid.true) (refl, refl)
-
-pub value-requires : goal.value-requires
-value-requires c = sym c.is_valid.ensures ∙ c.if-not-is_valid.false
+pub returns-in_err-v : goal.returns-in_err-v
+returns-in_err-v c w h =
+    set-refused h c.requires.1 _ c.try_from.ensures c.in_err-v.was (refused_as c.from_residual.result _ c.from_residual.ensures.1, refl)
 
 pub returns : goal.returns
-returns c w h =
-    set-done h c.requires.1 c.value.result (sym c.is_valid.ensures ∙ c.if-not-is_valid.false) c.value.ensures c.set.ensures
+returns c w h = set-done h c.requires.1 _ c.try_from.ensures c.in_ok-v.was c.set.ensures

@@ -1,4 +1,5 @@
-use native.Mathlib.Omega.{arith}
+use Rattle.question.proofs.Passing.{refused_as}
+use Rattle.command.proofs.Heaps.{none_there, some_there}
 use Rattle.std.proofs.Common.{rules}
 use mathlib.Core.Path.{◌≡◌, refl}
 use Prim.Native.Nat.{◌<◌}
@@ -13,29 +14,29 @@ use Rattle.command.proofs.store_in.Goals as goal
 use Rattle.command.proofs.store_in.Goals.{After-target_of}
 
 there : (c : After-target_of) → 0 < length c.args.image.now
-there c = omega (arith, c.if-image-eq0.false)
+there c = some_there _ c.is_empty.ensures c.if-is_empty.false
 
 aim : (c : After-target_of) → target_answer c.target_of.result ≡ target_in (value_cell c.get-2.result) (of_z w64 c.args.a.offset)
 aim c = rw (to_z-of_z w64 c.args.a.offset (search rules)) at c.target_of.ensures
 
-pub returns-then-image-eq0 : goal.returns-then-image-eq0
-returns-then-image-eq0 c =
-    store-heapless _ _ _ c.requires.held c.requires.register_bound.2 (omega arith) (refl, refl)
+pub returns-then-is_empty : goal.returns-then-is_empty
+returns-then-is_empty c =
+    store-heapless _ _ _ c.requires.held c.requires.register_bound.2 (none_there _ c.is_empty.ensures c.if-is_empty.true) (refl, refl)
 
 pub write_formed-requires : goal.write_formed-requires
 write_formed-requires c = c.requires.held.formed (there (goal.at.write_formed-requires c).After-target_of)
 
-pub returns-in-Ok-write_formed : goal.returns-in-Ok-write_formed
-returns-in-Ok-write_formed c =
+pub returns : goal.returns
+returns c =
     let u = c.get in
-    store-done _ _ _ c.requires.held c.requires.register_bound.2 (there (goal.at.returns-in-Ok-write_formed c).After-target_of) c.get-2.result c.get-2.ensures c.target_of.result (aim (goal.at.returns-in-Ok-write_formed c).After-target_of) u.result u.ensures c.in-Ok.is c.from-w.ensures c.write_formed.result _ c.write_formed.ensures c.in-Ok-write_formed.is
+    store-done _ _ _ c.requires.held c.requires.register_bound.2 (there (goal.at.returns c).After-target_of) c.get-2.result c.get-2.ensures c.target_of.result (aim (goal.at.returns c).After-target_of) u.result u.ensures c.in_ok-p.was c.from-w.ensures c.write_formed.result _ c.write_formed.ensures c.in_ok-write_formed.was
 
-pub returns-in-Err-write_formed : goal.returns-in-Err-write_formed
-returns-in-Err-write_formed c =
+pub returns-in_err-write_formed : goal.returns-in_err-write_formed
+returns-in_err-write_formed c =
     let u = c.get in
-    store-refused _ _ _ c.requires.held c.requires.register_bound.2 (there (goal.at.returns-in-Err-write_formed c).After-target_of) c.get-2.result c.get-2.ensures c.target_of.result (aim (goal.at.returns-in-Err-write_formed c).After-target_of) u.result u.ensures c.in-Ok.is c.from-w.ensures c.write_formed.result _ c.write_formed.ensures c.in-Err-write_formed.is c.number.ensures (refl, refl)
+    store-refused _ _ _ c.requires.held c.requires.register_bound.2 (there (goal.at.returns-in_err-write_formed c).After-target_of) c.get-2.result c.get-2.ensures c.target_of.result (aim (goal.at.returns-in_err-write_formed c).After-target_of) u.result u.ensures c.in_ok-p.was c.from-w.ensures c.write_formed.result _ c.write_formed.ensures c.in_err-write_formed.was (refused_as c.from_residual-in_err-write_formed.result _ c.from_residual-in_err-write_formed.ensures.1, refl)
 
-pub returns-in-Err : goal.returns-in-Err
-returns-in-Err c =
+pub returns-in_err-p : goal.returns-in_err-p
+returns-in_err-p c =
     let u = c.get in
-    store-nowhere _ _ _ c.requires.held c.requires.register_bound.2 (there (goal.at.returns-in-Err c).After-target_of) c.get-2.result c.get-2.ensures c.target_of.result (aim (goal.at.returns-in-Err c).After-target_of) u.result u.ensures c.in-Err.is c.number-in-Err.ensures (refl, refl)
+    store-nowhere _ _ _ c.requires.held c.requires.register_bound.2 (there (goal.at.returns-in_err-p c).After-target_of) c.get-2.result c.get-2.ensures c.target_of.result (aim (goal.at.returns-in_err-p c).After-target_of) u.result u.ensures c.in_err-p.was (refused_as c.from_residual.result _ c.from_residual.ensures.1, refl)

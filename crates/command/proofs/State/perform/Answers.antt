@@ -1,19 +1,20 @@
 use mathlib.Core.Path.{sym, ◌∙◌}
+use Rattle.question.proofs.Passing.{refused_as}
 use lib.Seq.{length-take-le}
 use Rattle.command.proofs.Making.{performs-front}
 use Rattle.command.proofs.Performing.{not_new, heap-lent, heapless-performs, heapless-stays}
 use Rattle.command.proofs.State.perform.Goals as goal
 use Rattle.command.proofs.State.perform.Goals.{then-self-eq0+in_default, else-self-eq0}
 
-pub returns-in-Ok : goal.returns-in-Ok
-returns-in-Ok c =
+pub returns-in-New : goal.returns-in-New
+returns-in-New c =
     rw c.in-New.is
-    (heapless-performs c.if-self-eq0.true (rw c.in-Ok.is at (c.make.ensures c.args.self.now.registers c.requires.ready.good)))
+    (heapless-performs c.if-self-eq0.true (rw c.in_ok-self.was at (c.make.ensures c.args.self.now.registers c.requires.ready.good)))
 
-pub returns-in-Err : goal.returns-in-Err
-returns-in-Err c =
-    rw (c.in-New.is, c.number.ensures)
-    (heapless-stays c.if-self-eq0.true (rw c.in-Err.is at (c.make.ensures c.args.self.now.registers c.requires.ready.good)))
+pub returns-in_err-self : goal.returns-in_err-self
+returns-in_err-self c =
+    rw (c.in-New.is, refused_as c.from_residual.result _ c.from_residual.ensures.1)
+    (heapless-stays c.if-self-eq0.true (rw c.in_err-self.was at (c.make.ensures c.args.self.now.registers c.requires.ready.good)))
 
 pub slice_bounds-act-end-2 : goal.slice_bounds-act-end-2
 slice_bounds-act-end-2 c = sym (length-take-le _ _ c.requires.ready.within)
