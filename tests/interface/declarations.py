@@ -40,10 +40,10 @@ REFUSALS = {
 OF_AN_IMAGE = {1, 2}
 # the functions that make the words of `out`
 FIELDS = {
-    "CELL": (SOURCE, "cell_words"),
-    "ALLOC": (SOURCE, "allocation_words"),
-    "REPORT": ("crates/report/src/lib.rt", "words"),
-    "FIGURE": (SOURCE, "figure_words"),
+    "CELL": (SOURCE, "Words<3> for Value"),
+    "ALLOC": (SOURCE, "Words<7> for Allocation"),
+    "REPORT": ("crates/report/src/lib.rt", "From<Statistics> for [u64; 11]"),
+    "FIGURE": (SOURCE, "Words<2> for Figure"),
 }
 RUST_BOUNDS = {"N": "nursery_cells", "T": "threshold", "S": "elder_slots", "C": "elder_cells"}
 
@@ -276,23 +276,22 @@ def refusals_apart(functions: Functions) -> Iterator[str]:
 
 def path_of(expression: str, lets: dict[str, str]) -> str:
     """`y.cells`, after `let y = s.nursery`, is `nursery.cells`: a parameter's name is left out."""
-    head, _, field = re.findall(r"\w+(?:\.\w+)*", expression.removesuffix(" as u64"))[-1].partition(".")
+    head, _, field = re.findall(r"\w+(?:\.\w+)*", expression.removesuffix(" as u64").removesuffix(".cast_unsigned()"))[-1].partition(".")
     before = path_of(lets[head], lets) if head in lets else ""
     return ".".join(part for part in (before, field) if part)
 
 
-def fields(file: str, function: str) -> list[str]:
-    """Of the array that the function makes; a pointer's are named as they are."""
-    body = only(file, rf"^(?:pub )?fn {function}\(.*?^\{{\n(.*?)^\}}", text_of(file))
+def fields(file: str, made_by: str) -> list[str]:
+    """Of the array that the impl's function makes; a pointer's are named as they are."""
+    body = only(file, rf"^impl {re.escape(made_by)} \{{\n[^}}]*\}};\n\n    fn [^{{]*\{{\n(.*?)^    \}}", text_of(file))
     lets = dict(re.findall(r"let (\w+) = (.+);", body))
-    made = parts(only(file, r"^    \[(.*)\]$", body))
+    made = parts(only(file, r"^        \[(.*)\]$", body))
     return [path_of(part, lets).removeprefix("pointer.").replace(".", "_").upper() for part in made]
 
 
 def crate_constants() -> Constants:
-    constants = {"HEAP_KIND_POINTER": int(only(VALUE, r"const POINTER: u64 = (\d+);", text_of(VALUE)))}
-    for name, number in re.findall(r"Value::(\w+).*? => plain_words\((\d+),", text_of(VALUE)):
-        constants[f"HEAP_KIND_{name.upper()}"] = int(number)
+    kinds = only(VALUE, r"^enum Kind \{\n(.*?)^\}", text_of(VALUE))
+    constants = {f"HEAP_KIND_{name.upper()}": int(number) for name, number in re.findall(r"(\w+) = (\d+),", kinds)}
     for name, number in re.findall(r"const (?:MOST_)?(\w+): u64 = (\d+);", text_of(SIZES)):
         constants[f"HEAP_MOST_{name}"] = int(number)
     for name, place in FIELDS.items():
