@@ -1,24 +1,24 @@
 // The cells of the allocations that a collection of the elder drops, counted out of its barrier.
 #![tactic(auto)]
 
-ghost use Rattle.std.specs.Prelude.{◌≡◌, true, ◌&&◌, not, ◌*◌, ◌≤◌, length};
+ghost use Rattle.std.specs.Prelude.{◌≡◌, true, ◌&&◌, not};
 ghost use Rattle.model.specs.Records.{whole_cells};
 ghost use Rattle.model.specs.Elder.{keeps, count_dropped};
 ghost use Rattle.question.specs.Question.{answer};
 ghost use Rattle.barrier.specs.Counts.{barrier_of, any_crossing};
-ghost use Rattle.trace.specs.Words.{members};
+ghost use Rattle.trace.specs.Words.{listed};
 ghost use Rattle.slots.specs.Slots.{Packed, slots_of};
 
 use barrier::{WriteBarrier, cells};
 use question::Question;
 
 // Whether the slot at base b has cells to count out: one crosses, and (1, b, 0) is no member.
-fn is_counted(slot: &[u64], b: usize, list: &[u64], count: usize) -> bool
-    requires { (whole_cells slot.now ≡ true) × (3 * count ≤ length list.now) }
-    ensures { result ≡ (any_crossing 1 slot.now && not (keeps (members count list.now) b)) }
+fn is_counted(slot: &[u64], b: usize, members: &[u64]) -> bool
+    requires { whole_cells slot.now ≡ true }
+    ensures { result ≡ (any_crossing 1 slot.now && not (keeps (listed members.now) b)) }
 {
     if cells::any_crosses(slot, 1) {
-        return !trace::find(list, count, 1, b as u64, 0);
+        return !trace::find(members, 1, b as u64, 0);
     }
     false
 }
@@ -27,23 +27,19 @@ fn is_counted(slot: &[u64], b: usize, list: &[u64], count: usize) -> bool
 pub fn count_dropped(
     lens: &[u64],
     cells: &[u64],
-    list: &[u64],
-    count: usize,
+    members: &[u64],
     mut barrier: WriteBarrier,
 ) -> Result<WriteBarrier, Question>
-    requires packed { Packed lens.now cells.now (slots_of lens.now cells.now) }
-    requires count_in_bounds { 3 * count ≤ length list.now }
-    ensures { answer barrier_of result ≡ count_dropped (members count list.now) 0 (slots_of lens.now cells.now) (barrier_of barrier) }
+    requires { Packed lens.now cells.now (slots_of lens.now cells.now) }
+    ensures { answer barrier_of result ≡ count_dropped (listed members.now) 0 (slots_of lens.now cells.now) (barrier_of barrier) }
 {
     let mut at: usize = 0;
-    let mut b = 0;
-    while b < lens.len() {
+    for b in 0..lens.len() {
         let end = at + 3 * lens[b] as usize;
-        if is_counted(&cells[at..end], b, list, count) {
+        if is_counted(&cells[at..end], b, members) {
             barrier = cells::count_cells(&cells[at..end], 1, false, barrier)?;
         }
         at = end;
-        b += 1;
     }
     Ok(barrier)
 }

@@ -8,7 +8,7 @@ use lib.ListN.{length, take, drop, length-map}
 use lib.Seq.{drop-drop}
 use Rattle.model.specs.Lists.{places, sum}
 use Rattle.model.specs.Res.{Res}
-use Rattle.model.specs.Records.{cells_of}
+use Rattle.model.specs.Records.{Ptr, cells_of}
 use Rattle.model.specs.Barrier.{Barrier}
 use Rattle.model.specs.Heap.{Elder, Heap, held, in_use}
 use Rattle.model.specs.Image.{decode, cut}
@@ -76,6 +76,6 @@ module _ {w : List ℕ} {l : Layout} (p : Laid w l) (i : Image w (decode w)) (ro
       }
 
 -- `count_dropped`
-pub dropped-read : {w : List ℕ} {l : Layout} → Laid w l → (n : ℕ) (list : List ℕ) {b : Barrier} {m : Res Barrier} → Reads (λ h. h.old.bar) w b → m ≡ count_dropped (members n list) 0 (slots_of (lens_in w l) (old_cells_in w l)) b
-    → Reads (λ h. count_dropped (members n list) 0 h.old.slots h.old.bar) w m
-dropped-read p n list r e = record { reads = λ h i. rw (r.reads h i, ← slots_lent i p) (sym e) }
+pub dropped-read : {w : List ℕ} {l : Layout} → Laid w l → (ps : List Ptr) {b : Barrier} {m : Res Barrier} → Reads (λ h. h.old.bar) w b → m ≡ count_dropped ps 0 (slots_of (lens_in w l) (old_cells_in w l)) b
+    → Reads (λ h. count_dropped ps 0 h.old.slots h.old.bar) w m
+dropped-read p ps r e = record { reads = λ h i. rw (r.reads h i, ← slots_lent i p) (sym e) }

@@ -2,7 +2,7 @@
 use mathlib.Core.Path.{◌≡◌, refl, sym}
 use mathlib.Core.Bool.{Bool, true, false}
 use mathlib.Core.List.{List, []}
-use Prim.Native.Nat.{ℕ, suc, ◌≤◌, ◌<◌}
+use Prim.Native.Nat.{ℕ, suc, ◌/◌, ◌≤◌, ◌<◌}
 use lib.Dec.{ltb}
 use lib.ListN.{length}
 use borrow.Author.Tests.{lt-ltb, le-ltb}
@@ -24,7 +24,7 @@ use Rattle.barrier.specs.Counts.{barrier_of}
 use Rattle.question.specs.Question.{answer}
 use Rattle.question.specs.declared.Question.{Question}
 use Rattle.barrier.specs.declared.WriteBarrier.{WriteBarrier}
-use Rattle.trace.specs.Words.{tab, members}
+use Rattle.trace.specs.Words.{tab, members, listed}
 use Rattle.trace.proofs.Entries.{length-members}
 use Rattle.layout.specs.Elder.{with_slots, Turned}
 use Rattle.fields.specs.Fields.{Reads, Turns, on_old, with_old_bar, collected_once}
@@ -45,9 +45,12 @@ module _ {w u v : List ℕ} (b : Barrier) (ps : List Ptr) (s : Turns (on_old (wi
 
 -- `collect_with`
 
-module _ (n : ℕ) (list : List ℕ) {w : List ℕ} {colls : ℕ} (r : Reads (λ h. h.old.colls) w colls) where
+module _ (list : List ℕ) {w : List ℕ} {colls : ℕ} (r : Reads (λ h. h.old.colls) w colls) where
   abbrev ps : List Ptr
-  ps = members n list
+  ps = listed list
+
+  abbrev n : ℕ
+  n = length list / 3
 
   pub counter-full : 4294967295 ≤ colls → Collects (collect_with ps) w (Err Bound) w
   unfolding collect_with
@@ -114,6 +117,6 @@ module _ (roots : List Cell) (ms : List ℕ) where
 
 -- `collect_all`: no roots and no masks, no members
 
-pub with_none : {w : List ℕ} {r : Result ℕ Question} {v : List ℕ} (list : List ℕ) → Collects (collect_with (members 0 list)) w r v → Collects (collect_step [] []) w r v
+pub with_none : {w : List ℕ} {r : Result ℕ Question} {v : List ℕ} → Collects (collect_with (listed [])) w r v → Collects (collect_step [] []) w r v
 unfolding members tab
-with_none list s = record { does = with-members [] [] [] (λ h i. sym (no_old h.old)) s.does; kept = s.kept }
+with_none s = record { does = with-members [] [] [] (λ h i. sym (no_old h.old)) s.does; kept = s.kept }

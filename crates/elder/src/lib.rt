@@ -13,7 +13,7 @@ ghost use Rattle.theorems.specs.Fit.{FitBarrier, Image};
 ghost use Rattle.theorems.specs.Does.{Does};
 ghost use Rattle.question.specs.Question.{answer, number_answer, done_answer};
 ghost use Rattle.barrier.specs.Counts.{barrier_of};
-ghost use Rattle.trace.specs.Words.{members};
+ghost use Rattle.trace.specs.Words.{members, listed};
 ghost use Rattle.words.specs.Source.{cells_from, whole_source};
 ghost use Rattle.fields.specs.Fields.{Reads, Turns, on_old};
 ghost use Rattle.elder.specs.Steps.{Listed, swept, Collects, collect_with, collect_step, count_step, source_step};
@@ -54,41 +54,38 @@ fn members(image: &[u64], roots: &[u64], masks: &[u64], list: &mut [u64]) -> usi
 }
 
 // The cells of what is no member counted out.
-fn count_dropped(image: &[u64], list: &[u64], count: usize) -> Result<WriteBarrier, Question>
-    requires image { Image image.now (decode image.now) }
-    requires count_in_bounds { 3 * count ≤ length list.now }
-    ensures { Reads (λ h. count_dropped (members count list.now) 0 h.old.slots h.old.bar) image.now (answer barrier_of result) }
+fn count_dropped(image: &[u64], members: &[u64]) -> Result<WriteBarrier, Question>
+    requires { Image image.now (decode image.now) }
+    ensures { Reads (λ h. count_dropped (listed members.now) 0 h.old.slots h.old.bar) image.now (answer barrier_of result) }
 {
     let l = places::layout_of(image);
     let b = fields::barrier_of(image, 1);
-    drops::count_dropped(l.slot_lengths(image), l.elder_cells(image), list, count, b)
+    drops::count_dropped(l.slot_lengths(image), l.elder_cells(image), members, b)
 }
 
 // What is no member leaves; this barrier stays.
-fn sweep(image: &mut [u64], list: &[u64], count: usize, b: WriteBarrier)
+fn sweep(image: &mut [u64], members: &[u64], b: WriteBarrier)
     requires image { Image image.old (decode image.old) }
-    requires count_in_bounds { 3 * count ≤ length list.now }
     requires fit_barrier { FitBarrier (barrier_of b) }
     requires image_bound { (decode image.old).old.colls < most }
-    ensures { Turns (on_old (swept (members count list.now) (barrier_of b))) image.old image.new }
+    ensures { Turns (on_old (swept (listed members.now) (barrier_of b))) image.old image.new }
 {
     fields::put_barrier(image, 1, b);
-    layout::keep_members(image, list, count);
+    layout::keep_members(image, members);
     fields::count_old_collection(image);
 }
 
 // A collection with these members; how many they are.
-fn collect_with(image: &mut [u64], list: &[u64], count: usize) -> Result<u64, Question>
-    requires image { Image image.old (decode image.old) }
-    requires count_in_bounds { 3 * count ≤ length list.now }
-    ensures { Collects (collect_with (members count list.now)) image.old result image.new }
+fn collect_with(image: &mut [u64], members: &[u64]) -> Result<u64, Question>
+    requires { Image image.old (decode image.old) }
+    ensures { Collects (collect_with (listed members.now)) image.old result image.new }
 {
     if MOST <= fields::header_of(image).old_collections {
         return Err(Question::Bound);
     }
-    let b = count_dropped(image, list, count)?;
-    sweep(image, list, count, b);
-    Ok(count as u64)
+    let b = count_dropped(image, members)?;
+    sweep(image, members, b);
+    Ok((members.len() / 3) as u64)
 }
 
 // A collection; how many members it visited. They are listed in the lent words.
@@ -103,7 +100,7 @@ pub fn collect(
     ensures { Does (collect_step (cells_in roots.now) masks.now) image.old (number_answer result) image.new }
 {
     let count = members(image, roots, masks, list);
-    collect_with(image, list, count)
+    collect_with(image, &list[..3 * count])
 }
 
 // A collection without roots and masks has no members: nothing is traced, and every allocation leaves.
@@ -111,8 +108,7 @@ pub fn collect_all(image: &mut [u64]) -> Result<u64, Question>
     requires { Image image.old (decode image.old) }
     ensures { Collects (collect_step [] []) image.old result image.new }
 {
-    let none = [0u64; 1];
-    collect_with(image, &none[..0], 0)
+    collect_with(image, &[])
 }
 
 // ---- Placing

@@ -4,7 +4,7 @@
 
 pub mod places;
 
-ghost use Rattle.std.specs.Prelude.{◌≡◌, true, [], map, ◌*◌, ◌≤◌, ◌<◌, length, get_or, set, replicate};
+ghost use Rattle.std.specs.Prelude.{◌≡◌, true, [], map, ◌≤◌, ◌<◌, length, get_or, set, replicate};
 ghost use Rattle.model.specs.Lists.{keep_if, flat, sum};
 ghost use Rattle.model.specs.Res.{ok};
 ghost use Rattle.model.specs.Records.{whole_cells};
@@ -12,7 +12,7 @@ ghost use Rattle.model.specs.Image.{decode};
 ghost use Rattle.model.specs.Elder.{keep};
 ghost use Rattle.model.specs.Collector.{holds, swap_cell, read};
 ghost use Rattle.theorems.specs.Fit.{Image};
-ghost use Rattle.trace.specs.Words.{pointer, members};
+ghost use Rattle.trace.specs.Words.{pointer, listed};
 ghost use Rattle.words.specs.Source.{cells_from, count_of, whole_source};
 ghost use Rattle.slots.specs.Slots.{ReadBy, written, move_of};
 ghost use Rattle.layout.specs.Elder.{Turned, fit_answer, fit_for, fit_words};
@@ -89,16 +89,15 @@ pub fn put(image: &mut [u64], b: usize, src: Source<'_>)
     slots::place(&mut image[from..], l.s, at, b, src);
 }
 
-// The elder keeps the allocations whose pointers are among the count triples of list.
-pub fn keep_members(image: &mut [u64], list: &[u64], count: usize)
-    requires image { Image image.old (decode image.old) }
-    requires count_in_bounds { 3 * count ≤ length list.now }
-    ensures { Turned (keep (members count list.now) 0) image.old image.new }
+// The elder keeps the allocations whose pointers are among the members.
+pub fn keep_members(image: &mut [u64], members: &[u64])
+    requires { Image image.old (decode image.old) }
+    ensures { Turned (keep (listed members.now) 0) image.old image.new }
 {
     let l = places::layout_of(image);
     let from = l.slots;
     let at = l.old - from;
-    slots::pack(&mut image[from..], l.s, at, list, count);
+    slots::pack(&mut image[from..], l.s, at, members);
 }
 
 // Each elder cell that is the pointer becomes (1, new, 0). Answers how many there were.

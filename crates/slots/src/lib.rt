@@ -11,7 +11,7 @@ ghost use Rattle.model.specs.Heap.{in_use};
 ghost use Rattle.model.specs.Elder.{keeps, keep};
 ghost use Rattle.model.specs.Collector.{holds, swap_cell};
 ghost use Rattle.model.specs.Calls.{cells_in};
-ghost use Rattle.trace.specs.Words.{members};
+ghost use Rattle.trace.specs.Words.{listed};
 ghost use Rattle.words.specs.Source.{cells_from, count_of, whole_source};
 ghost use Rattle.slots.specs.Slots.{Packed, slots_of, slots_at, Elder, Changed, read_old, ReadBy, written, stepped, stepped_to, words_at, move_of};
 
@@ -189,11 +189,11 @@ struct Ends {
 }
 
 // Keeps or drops the allocation at b. A base without one costs no search.
-fn pack_one(w: &mut [u64], at: usize, b: usize, ends: Ends, list: &[u64], count: usize) -> Ends
-    requires b_lt_at { (b < at) × (at ≤ length w.old) × (3 * count ≤ length list.now) }
+fn pack_one(w: &mut [u64], at: usize, b: usize, ends: Ends, members: &[u64]) -> Ends
+    requires b_lt_at { (b < at) × (at ≤ length w.old) }
     requires dst_le_src { (ends.dst ≤ ends.src) × (ends.src + get_or w.old b 0 * 3 ≤ length w.old - at) }
-    ensures w_after { w.new ≡ stepped (keeps (members count list.now) b) at b ends.src ends.dst (get_or w.old b 0 * 3) w.old }
-    ensures src_value { (result.src ≡ ends.src + get_or w.old b 0 * 3) × (result.dst ≡ stepped_to (keeps (members count list.now) b) ends.dst (get_or w.old b 0 * 3)) }
+    ensures w_after { w.new ≡ stepped (keeps (listed members.now) b) at b ends.src ends.dst (get_or w.old b 0 * 3) w.old }
+    ensures src_value { (result.src ≡ ends.src + get_or w.old b 0 * 3) × (result.dst ≡ stepped_to (keeps (listed members.now) b) ends.dst (get_or w.old b 0 * 3)) }
 {
     let n = 3 * w[b] as usize;
     let src = ends.src;
@@ -201,7 +201,7 @@ fn pack_one(w: &mut [u64], at: usize, b: usize, ends: Ends, list: &[u64], count:
     if n == 0 {
         return ends;
     }
-    if trace::find(list, count, 1, b as u64, 0) {
+    if trace::find(members, 1, b as u64, 0) {
         words::move_words(&mut w[at..], dst, src, n);
         return Ends {
             src: src + n,
@@ -212,15 +212,14 @@ fn pack_one(w: &mut [u64], at: usize, b: usize, ends: Ends, list: &[u64], count:
     Ends { src: src + n, dst }
 }
 
-// Keeps the allocations whose pointers are among the count triples of list, packed.
-pub fn pack(w: &mut [u64], s: usize, at: usize, list: &[u64], count: usize)
-    requires elder { Elder s at w.old (slots_at s at w.old) }
-    requires count_in_bounds { 3 * count ≤ length list.now }
-    ensures { Changed s at w.old w.new (keep (members count list.now) 0 (slots_at s at w.old)) }
+// Keeps the allocations whose pointers are among the members, packed.
+pub fn pack(w: &mut [u64], s: usize, at: usize, members: &[u64])
+    requires { Elder s at w.old (slots_at s at w.old) }
+    ensures { Changed s at w.old w.new (keep (listed members.now) 0 (slots_at s at w.old)) }
 {
     let mut ends = Ends { src: 0, dst: 0 };
     for b in 0..s {
-        ends = pack_one(w, at, b, ends, list, count);
+        ends = pack_one(w, at, b, ends, members);
     }
     let dst = ends.dst;
     let freed = ends.src - dst;

@@ -44,7 +44,7 @@ chunks-cut (suc n) m w =
     let e : 3 * suc n + m ≡ 3 + (3 * n + m) = omega arith in
     rw e (λ j. take-take 3 (3 + (3 * n + m)) w (omega arith) j ∷ (ap (first_chunks 3 n) (drop-take 3 (3 * n + m) w) ∙ chunks-cut n m (drop 3 w)) j)
 
-pub front : (n : ℕ) (w : List ℕ) → 3 * n ≤ length w → first_chunks 3 (length (take (3 * n) w) / 3) (take (3 * n) w) ≡ first_chunks 3 n w
+front : (n : ℕ) (w : List ℕ) → 3 * n ≤ length w → first_chunks 3 (length (take (3 * n) w) / 3) (take (3 * n) w) ≡ first_chunks 3 n w
 front n w h =
     let l : length (take (3 * n) w) / 3 ≡ n = omega (arith, length-take-le (3 * n) w h) in
     rw l (let e : 3 * n ≡ 3 * n + 0 = omega arith in rw e (chunks-cut n 0 w))

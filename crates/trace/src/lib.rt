@@ -11,17 +11,16 @@ ghost use Rattle.model.specs.Image.{cut};
 ghost use Rattle.model.specs.Nursery.{matched, young_members};
 ghost use Rattle.model.specs.Elder.{old_members};
 ghost use Rattle.model.specs.Calls.{cells_in};
-ghost use Rattle.trace.specs.Words.{tab, pointer, ptr_at, members, stored, Room};
+ghost use Rattle.trace.specs.Words.{tab, pointer, ptr_at, members, listed, stored, Room};
 ghost use Rattle.trace.specs.Places.{root_at, own_at, base_at};
 ghost use Rattle.trace.specs.Leads.{begins_at, leads_to, Inside};
 ghost use Rattle.trace.specs.Traces.{Within, most_members, Traced};
 
-// Is (heap, base, offset) among the first count entries? Entries differ in their bases mostly, so these come first.
-pub fn find(list: &[u64], count: usize, heap: u64, base: u64, offset: u64) -> bool
-    requires { 3 * count ≤ length list.now }
-    ensures { result ≡ mem same_ptr (pointer heap base offset) (members count list.now) }
+// Is (heap, base, offset) among the members, three words each? They differ in their bases mostly, so these come first.
+pub fn find(members: &[u64], heap: u64, base: u64, offset: u64) -> bool
+    ensures { result ≡ mem same_ptr (pointer heap base offset) (listed members.now) }
 {
-    let (entries, _) = list[..3 * count].as_chunks::<3>();
+    let (entries, _) = members.as_chunks::<3>();
     entries
         .iter()
         .any(|e| base == e[1] && offset == e[2] && heap == e[0])
@@ -43,7 +42,7 @@ fn enter_one(list: &mut [u64], count: usize, heap: u64, base: u64, offset: u64) 
     requires { Room list.old (add same_ptr (members count list.old) (pointer heap base offset)) }
     ensures { members result list.new ≡ add same_ptr (members count list.old) (pointer heap base offset) }
 {
-    if find(list, count, heap, base, offset) {
+    if find(&list[..3 * count], heap, base, offset) {
         return count;
     }
     store(list, count, heap, base, offset);

@@ -1,4 +1,5 @@
 use borrow.Author.Rules.{rules}
+use Rattle.trace.specs.Words.{listed}
 use Rattle.layout.proofs.Tail.{image-says-sized, parts-formed}
 use Rattle.fields.proofs.Counts.{old-bar}
 use Rattle.elder.proofs.Lent.{dropped-read}
@@ -8,11 +9,8 @@ pub layout_of-l-requires : goal.layout_of-l-requires
 layout_of-l-requires c = search (image-says-sized, rules)
 
 pub count_dropped-requires : goal.count_dropped-requires
-count_dropped-requires c = record {
-  packed = rw (c.slot_lengths.ensures, c.elder_cells.ensures) (parts-formed c.requires.image c.layout_of-l.ensures);
-  count_in_bounds = search rules;
-}
+count_dropped-requires c = rw (c.slot_lengths.ensures, c.elder_cells.ensures) (parts-formed c.requires c.layout_of-l.ensures)
 
 pub returns : goal.returns
 returns c =
-    dropped-read c.layout_of-l.ensures c.args.count c.args.list.now (old-bar c.barrier_of-b.ensures) (rw (c.slot_lengths.ensures, c.elder_cells.ensures) at c.count_dropped.ensures)
+    dropped-read c.layout_of-l.ensures (listed c.args.members.now) (old-bar c.barrier_of-b.ensures) (rw (c.slot_lengths.ensures, c.elder_cells.ensures) at c.count_dropped.ensures)

@@ -3,13 +3,15 @@ use mathlib.Core.Bool.{Bool, true, false}
 use mathlib.Core.List.{List, [], ◌∷◌, ◌++◌}
 use Prim.Native.Nat.{ℕ, ◌+◌, ◌*◌, ◌^◌, ◌≤◌, ◌<◌}
 use native.Mathlib.Omega.{arith}
-use lib.ListN.{length, length-append}
+use lib.ListN.{length, take, length-append}
+use lib.Seq.{length-take-le}
 use mir.Val.{Fits}
 use mir.Syntax.{w64}
 use Rattle.model.specs.Reach.{mem, add}
 use Rattle.model.specs.Records.{Ptr, same_ptr}
-use Rattle.trace.specs.Words.{members, stored, Room}
+use Rattle.trace.specs.Words.{members, listed, stored, Room}
 use Rattle.trace.proofs.Entries.{length-members, members-stored}
+use Rattle.trace.proofs.Chunks.{listed-cut}
 use Rattle.trace.proofs.Closure.{add-old, add-new, add-sized}
 use Rattle.trace.proofs.enter_one.Goals as goal
 
@@ -17,8 +19,17 @@ module _ (w : List ℕ) (n : ℕ) (p : Ptr) (room : Room w (add same_ptr (member
   room-count : 3 * n ≤ length w
   room-count = omega (arith, room.fits, (add-sized same_ptr (members n w) p).0, length-members n w)
 
+  cut_fits : length w < 2 ^ 64 → Fits w64 (3 * n)
+  cut_fits h = omega (arith, room-count)
+
+  cut-length : 3 * n ≡ length (take (3 * n) w)
+  cut-length = sym (length-take-le (3 * n) w room-count)
+
   -- r is what `find` says
-  module _ {r : Bool} (said : r ≡ mem same_ptr p (members n w)) where
+  module _ {r : Bool} (told : r ≡ mem same_ptr p (listed (take (3 * n) w))) where
+    said : r ≡ mem same_ptr p (members n w)
+    said = told ∙ ap (mem same_ptr p) (listed-cut n w room-count)
+
     entered-old : r ≡ true → members n w ≡ add same_ptr (members n w) p
     entered-old e = sym (add-old same_ptr (members n w) p (sym said ∙ e))
 
@@ -34,8 +45,14 @@ module _ (w : List ℕ) (n : ℕ) (p : Ptr) (room : Room w (add same_ptr (member
     entered-new : r ≡ false → {v : List ℕ} → v ≡ stored w n p → members (n + 1) v ≡ add same_ptr (members n w) p
     entered-new e s = rw s (members-stored w n p (room-new e)) ∙ sym (added e)
 
-pub find-requires : goal.find-requires
-find-requires c = search room-count
+pub overflow_mul-count : goal.overflow_mul-count
+overflow_mul-count c = search cut_fits
+
+pub slice_bounds-find-end : goal.slice_bounds-find-end
+slice_bounds-find-end c = search room-count
+
+pub slice_bounds-find-end-2 : goal.slice_bounds-find-end-2
+slice_bounds-find-end-2 c = search cut-length
 
 pub returns-then-find : goal.returns-then-find
 returns-then-find c = search entered-old

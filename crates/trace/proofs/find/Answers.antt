@@ -1,4 +1,4 @@
-use Rattle.std.proofs.Common.{◌≡◌, ℕ, Bool, true, false, ◌&&◌, ◌||◌, eqb, List, [], ◌∷◌, get_or, map, refl, ap, ◌∙◌, rules, tests}
+use Rattle.std.proofs.Common.{◌≡◌, ℕ, Bool, true, false, ◌&&◌, ◌||◌, eqb, List, [], ◌∷◌, length, get_or, map, ◌/◌, refl, ap, ◌∙◌, rules, tests}
 use Rattle.std.specs.List.{list_any}
 use Rattle.std.specs.Simd.{first_chunks}
 use Rattle.std.proofs.lemmas.Iterator.{YieldsList-from_slice}
@@ -6,7 +6,7 @@ use Rattle.std.proofs.lemmas.Iterator.Search.{any_from_yields_List}
 use Rattle.model.specs.Reach.{mem}
 use Rattle.model.specs.Records.{Ptr, same_ptr}
 use Rattle.trace.specs.Words.{pointer}
-use Rattle.trace.proofs.Chunks.{entry_of, entries-are, front}
+use Rattle.trace.proofs.Chunks.{entry_of, entries-are}
 use Rattle.trace.proofs.find.Goals as goal
 
 -- a chunk's test, the base first
@@ -35,9 +35,9 @@ returns c =
     let h = c.args.heap in
     let b = c.args.base in
     let o = c.args.offset in
-    let n = c.args.count in
-    let es : c.as_chunks.result.0.now ≡ first_chunks 3 n c.args.list.now =
-    c.as_chunks.ensures.front ∙ front n c.args.list.now c.requires in
-    any_from_yields_List (same_entry h b o) _ _ _ c.any.ensures.ran (YieldsList-from_slice (first_chunks 3 n c.args.list.now) (c.iter.ensures.rest ∙ es)) (λ x r q k. search (rules, tests))
-    ∙ found (pointer h b o) (same_entry h b o) (same_entry-is h b o) (first_chunks 3 n c.args.list.now)
-    ∙ ap (mem same_ptr (pointer h b o)) (entries-are n c.args.list.now)
+    let w = c.args.members.now in
+    let n = length w / 3 in
+    let es = first_chunks 3 n w in
+    any_from_yields_List (same_entry h b o) _ _ _ c.any.ensures.ran (YieldsList-from_slice es (c.iter.ensures.rest ∙ c.as_chunks.ensures.front)) (λ x r q k. search (rules, tests))
+    ∙ found (pointer h b o) (same_entry h b o) (same_entry-is h b o) es
+    ∙ ap (mem same_ptr (pointer h b o)) (entries-are n w)
