@@ -31,11 +31,11 @@ module _ (m : Res Barrier) (f : Barrier → Res Barrier) (r : Result WriteBarrie
 
 -- one change: x is the offset's i64
 module _ (own : ℕ) (m : Move) (x : ℤ) (b : Barrier) (s : Fits w64 m.offset) (is : x ≡ to_z w64 m.offset) where
-  was-cell : value_cell (PointerV (record { heap = 0; base = m.base; offset = x })) ≡ ref (move_of m).0
+  was-cell : value_cell (PointerV (record { heap = m.heap; base = m.base; offset = x })) ≡ ref (move_of m).0
   unfolding value_cell
-  was-cell = rw is (λ i. ref (record { heap = 0; base = m.base; off = of_z-to_z w64 m.offset s i }))
+  was-cell = rw is (λ i. ref (record { heap = m.heap; base = m.base; off = of_z-to_z w64 m.offset s i }))
 
-  module _ (r : Result WriteBarrier Question) (e : answer barrier_of r ≡ count_out own (value_cell (PointerV (record { heap = 0; base = m.base; offset = x }))) b) where
+  module _ (r : Result WriteBarrier Question) (e : answer barrier_of r ≡ count_out own (value_cell (PointerV (record { heap = m.heap; base = m.base; offset = x }))) b) where
     out : answer barrier_of r ≡ count_out own (ref (move_of m).0) b
     out = e ∙ ap (λ (v : Cell). count_out own v b) was-cell
 

@@ -13,12 +13,12 @@ use question::Question;
 use slots::Move;
 use value::{Pointer, Value};
 
-// One such cell: (0, base, offset) out, then (1, new, 0) in.
+// One such cell: (heap, base, offset) out, then (1, new, 0) in.
 pub fn count_change(own: u8, moved: Move, barrier: WriteBarrier) -> Result<WriteBarrier, Question>
     ensures { answer barrier_of result ≡ count_change own (move_of moved) (barrier_of barrier) }
 {
     let was = Pointer {
-        heap: 0,
+        heap: moved.heap,
         base: moved.base,
         offset: moved.offset.cast_signed(),
     };

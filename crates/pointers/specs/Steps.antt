@@ -39,10 +39,10 @@ change_step m h = swap_both m (h.young, h.old) >>= with_both h
 unfoldable pub changes_step : List (Ptr × ℕ) → Heap → Res (Unit {0} × Heap)
 changes_step ms h = each swap_both ms (h.young, h.old) >>= with_both h
 
--- the moves that the words hold: base and offset in entries of three words, the new bases beside them
+-- the moves of the nursery's pointers that the words hold: base and offset in entries of three words, the new bases beside them
 
 unfoldable pub move_at : List ℕ → List ℕ → ℕ → Ptr × ℕ
-move_at list bases i = move_of (record { base = get_or list (3 * i + 1) 0; offset = get_or list (3 * i + 2) 0; new = get_or bases i 0 })
+move_at list bases i = move_of (record { heap = 0; base = get_or list (3 * i + 1) 0; offset = get_or list (3 * i + 2) 0; new = get_or bases i 0 })
 
 unfoldable pub moves_in : ℕ → List ℕ → List ℕ → List (Ptr × ℕ)
 moves_in n list bases = tab (move_at list bases) 0 n

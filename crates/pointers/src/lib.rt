@@ -20,7 +20,7 @@ use layout::places;
 use question::Question;
 use slots::Move;
 
-// ---- One pointer: (0, base, offset) becomes (1, new, 0)
+// ---- One pointer: (heap, base, offset) becomes (1, new, 0)
 
 // In nursery cells below the cursor; how many held it.
 fn swap_young(image: &mut [u64], moved: Move) -> usize
@@ -61,7 +61,7 @@ pub fn change(image: &mut [u64], moved: Move) -> Result<(), Question>
 
 // ---- All of them: the first count entries of list, with the new base of each
 
-// The i-th.
+// The i-th: the nursery's pointers are moved.
 #[tactic(auto, unfolding(crate::specs::Steps::move_at))]
 fn move_at(list: &[u64], bases: &[u64], i: usize) -> Move
     requires { (3 * i + 2 < length list.now) × (i < length bases.now) }
@@ -69,6 +69,7 @@ fn move_at(list: &[u64], bases: &[u64], i: usize) -> Move
 {
     let at = 3 * i;
     Move {
+        heap: 0,
         base: list[at + 1],
         offset: list[at + 2],
         new: bases[i],

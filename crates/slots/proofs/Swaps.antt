@@ -11,11 +11,11 @@ use native.Mathlib.Omega.{arith}
 use lib.ListN.{length, get_or, set, take, drop}
 use lib.Seq.{set-get_or, take-length, drop-length}
 use Rattle.model.specs.Lists.{cons_if, keep_if}
-use Rattle.model.specs.Records.{Ptr, Cell, plain, ref, blank, cell_words, cell_of, valid, all_valid, whole_cells, whole}
+use Rattle.model.specs.Records.{Ptr, Cell, plain, ref, blank, cell_words, valid, all_valid, whole_cells, whole}
 use Rattle.model.specs.Collector.{moved_to, holds, swap_cell}
 use Rattle.model.specs.Calls.{cells_in}
 use Rattle.theorems.proofs.Barrier.{bit}
-use Rattle.theorems.proofs.Cells.{kind_word, payload_word, offset_word, cell-back, whole_words, words-in, whole_back, whole-valid, whole_length}
+use Rattle.theorems.proofs.Cells.{kind_word, payload_word, offset_word, plain-kind, whole_words, words-in, whole_back, whole-valid, whole_length}
 use Rattle.theorems.proofs.Contents.{valid-all, all_valid_lem, valid-swap}
 use Rattle.theorems.proofs.Lists.{take_in, drop-in}
 use Rattle.theorems.proofs.Members.{same_ptr-eq, same_ptr-refl}
@@ -31,6 +31,12 @@ unfolding holds
 holds-is p (plain k v) e = absurd (false≢true e)
 holds-is p (ref q) e = ap ref (sym (same_ptr-eq p q e))
 
+-- a valid cell with the pointer's three words
+is-ref : (p : Ptr) (c : Cell) → valid c ≡ true → kind_word c ≡ p.heap * 256 + 5 → payload_word c ≡ p.base → offset_word c ≡ p.off → c ≡ ref p
+unfolding valid
+is-ref p (plain k v) e x y z = let small = plain-kind k v e in absurd (omega arith)
+is-ref p (ref q) e x y z = let same : q.heap ≡ p.heap = omega arith in λ i. ref (pointer (same i) (y i) (z i))
+
 swap-no : (m : Ptr × ℕ) (c : Cell) → holds m.0 c ≡ false → swap_cell m c ≡ c
 unfolding swap_cell
 swap-no m c e = rw (e, swap_cell)
@@ -45,9 +51,9 @@ swap-yes m c e = rw (e, swap_cell)
 abbrev SwappedAt : Ptr × ℕ → ℕ → List Cell → List ℕ → Bool → Type 0
 SwappedAt m i cs v r = (v ≡ cell_words (set cs i (swap_cell m (get_or cs i blank)))) × (r ≡ holds m.0 (get_or cs i blank))
 
-module _ (b o n i : ℕ) (w : List ℕ) (u : whole_cells w ≡ true) (l : i * 3 + 2 < length w) where
+module _ (h b o n i : ℕ) (w : List ℕ) (u : whole_cells w ≡ true) (l : i * 3 + 2 < length w) where
   abbrev p : Ptr
-  p = pointer 0 b o
+  p = pointer h b o
 
   abbrev cs : List Cell
   cs = cells_in w
@@ -67,8 +73,8 @@ module _ (b o n i : ℕ) (w : List ℕ) (u : whole_cells w ≡ true) (l : i * 3 
       let q : holds p c ≡ false = false_of (holds p c) (λ t. f (holds-is p c t)) in
       (rw (swap-no (p, n) c q, set-get_or cs i blank) (sym (whole_back w u)), sym q)
 
-  pub swap-kind : (get_or w (3 * i) 0 ≡ 5 → ⊥) → SwappedAt (p, n) i cs w false
-  swap-kind d = missed (λ t. d (kind_at cs [] w-is i inside ∙ ap kind_word t))
+  pub swap-kind : (get_or w (3 * i) 0 ≡ 5 + 256 * h → ⊥) → SwappedAt (p, n) i cs w false
+  swap-kind d = missed (λ t. d (kind_at cs [] w-is i inside ∙ ap kind_word t ∙ omega arith))
 
   pub swap-payload : (get_or w (3 * i + 1) 0 ≡ b → ⊥) → SwappedAt (p, n) i cs w false
   swap-payload d = missed (λ t. d (payload-at cs [] w-is i inside ∙ ap payload_word t))
@@ -76,14 +82,11 @@ module _ (b o n i : ℕ) (w : List ℕ) (u : whole_cells w ≡ true) (l : i * 3 
   pub swap-offset : (get_or w (3 * i + 2) 0 ≡ o → ⊥) → SwappedAt (p, n) i cs w false
   swap-offset d = missed (λ t. d (offset_at cs [] w-is i inside ∙ ap offset_word t))
 
-  pub swap-hit : get_or w (3 * i) 0 ≡ 5 → get_or w (3 * i + 1) 0 ≡ b → get_or w (3 * i + 2) 0 ≡ o → SwappedAt (p, n) i cs (set (set (set w (3 * i) 261) (3 * i + 1) n) (3 * i + 2) 0) true
+  pub swap-hit : get_or w (3 * i) 0 ≡ 5 + 256 * h → get_or w (3 * i + 1) 0 ≡ b → get_or w (3 * i + 2) 0 ≡ o → SwappedAt (p, n) i cs (set (set (set w (3 * i) 261) (3 * i + 1) n) (3 * i + 2) 0) true
   unfolding moved_to whole valid holds
   swap-hit x y z =
-      let k : kind_word c ≡ 5 = sym (kind_at cs [] w-is i inside) ∙ x in
-      let q : c ≡ ref p =
-      sym (cell-back c (valid-at cs i inside (whole-valid w u)))
-      ∙ (λ j. cell_of (k j) ((sym (payload-at cs [] w-is i inside) ∙ y) j) ((sym (offset_at cs [] w-is i inside) ∙ z) j))
-      ∙ cell-back (ref p) refl in
+      let k : kind_word c ≡ h * 256 + 5 = sym (kind_at cs [] w-is i inside) ∙ x ∙ omega arith in
+      let q : c ≡ ref p = is-ref p c (valid-at cs i inside (whole-valid w u)) k (sym (payload-at cs [] w-is i inside) ∙ y) (sym (offset_at cs [] w-is i inside) ∙ z) in
       let t : holds p c ≡ true = rw q (same_ptr-refl p) in
       let stored : set (set (set w (3 * i) 261) (3 * i + 1) n) (3 * i + 2) 0 ≡ cell_words (set cs i (ref (moved_to (p, n)))) =
       ap (λ (a : List ℕ). set (set (set a (3 * i) 261) (3 * i + 1) n) (3 * i + 2) 0) (sym (whole_back w u)) ∙ put-cell cs i (ref (moved_to (p, n))) inside in

@@ -7,6 +7,7 @@ use Rattle.model.specs.Records.{Cell, Ptr, blank, cell_words, cell_of, cells_of,
 use Rattle.model.specs.Heap.{in_use}
 use Rattle.model.specs.Image.{cut}
 use Rattle.words.specs.Words.{padded}
+use Rattle.trace.specs.Words.{pointer}
 use Rattle.value.specs.declared.Words.{Words}
 use Rattle.slots.specs.declared.Move.{Move}
 
@@ -64,9 +65,9 @@ pub record ReadBy (m : Res Cell) (r : Option Words) : Type 0 where
 abbrev pub written : ℕ → ℕ → List ℕ → List (List Cell) → List (List Cell)
 written b o cell slots = set slots b (set (get_or slots b []) o (cell_of (get_or cell 0 0) (get_or cell 1 0) (get_or cell 2 0)))
 
--- a moved pointer of the nursery and its new base
+-- a moved pointer and its new base
 abbrev pub move_of : Move → Ptr × ℕ
-move_of m = (record { heap = 0; base = m.base; off = m.offset }, m.new)
+move_of m = (pointer m.heap m.base m.offset, m.new)
 
 -- one slot of n words is kept, its words moved from src to dst, or dropped
 

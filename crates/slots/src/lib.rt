@@ -86,22 +86,23 @@ pub fn write_old(w: &mut [u64], s: usize, at: usize, b: usize, o: usize, cell: &
 
 // ---- Cells that hold a pointer are changed; the words may be those of any valid cells
 
-// A moved pointer, (0, base, offset), and the new base: it becomes (1, new, 0). Only the nursery's move, so no heap stands here.
+// A moved pointer, (heap, base, offset), and the new base: it becomes (1, new, 0).
 #[derive(Clone, Copy)]
 pub struct Move {
+    pub heap: u8,
     pub base: u64,
     pub offset: u64,
     pub new: u64,
 }
 
-// The i-th cell becomes (1, new, 0) if it is the pointer. Answers whether it was.
+// The i-th cell becomes (1, new, 0) if it is the pointer. Answers whether it was. A heap above 1 stands in no valid cell.
 pub fn swap_at(cells: &mut [u64], i: usize, moved: Move) -> bool
     requires { (i * 3 + 2 < length cells.old) × (whole_cells cells.old ≡ true) }
     ensures cells_after { cells.new ≡ cell_words (set (cells_in cells.old) i (swap_cell (move_of moved) (get_or (cells_in cells.old) i blank))) }
     ensures value { result ≡ holds (move_of moved).0 (get_or (cells_in cells.old) i blank) }
 {
     let at = 3 * i;
-    if cells[at] != value::POINTER {
+    if cells[at] != value::POINTER + value::HEAP_STEP * moved.heap as u64 {
         return false;
     }
     if cells[at + 1] != moved.base {
