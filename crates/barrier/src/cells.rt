@@ -43,11 +43,7 @@ pub fn count_cells(
 {
     for words in cells.chunks_exact(3) {
         if crosses(words[0], own) {
-            let cell = Words {
-                tag: words[0],
-                payload: words[1],
-                offset: words[2],
-            };
+            let cell = Words::at(words, 0);
             barrier = barrier.count(own, into, cell.value())?;
         }
     }

@@ -20,7 +20,8 @@ use Rattle.theorems.proofs.Cells.{cell-back, valid-words, words-length}
 use Rattle.theorems.proofs.Regions.{lengths-sum, slots-back}
 use Rattle.words.specs.Words.{padded}
 use Rattle.words.proofs.Sums.{sum-within, sum-front}
-use Rattle.slots.specs.Slots.{Packed, slots_of, Elder, slots_at, read_old, answer, valid_old, ReadBy, words_at}
+use Rattle.value.specs.Value.{words_at}
+use Rattle.slots.specs.Slots.{Packed, slots_of, Elder, slots_at, read_old, answer, valid_old, ReadBy}
 use Rattle.value.specs.declared.Words.{Words}
 use Rattle.slots.proofs.Flat.{use-split, sum-take, slot-cell, valid-at, kind_at, payload-at, offset_at}
 
@@ -112,7 +113,7 @@ module _ {ls ws : List ℕ} {ss : List (List Cell)} (v : Packed ls ws ss) where
       pub read_fits : length ws < 2 ^ 64 → Fits w64 (f + o)
       read_fits l = omega (arith, read_below, v.fits)
 
-      pub read-room : (f + o) * 3 + 2 < length ws
+      pub read-room : (f + o) * 3 + 3 ≤ length ws
       read-room = omega (arith, read_below, v.fits)
 
       pub read_cell : {r : Words} → r ≡ words_at ws (3 * (f + o)) → ReadBy (read_old ss b o) (Some r)

@@ -40,10 +40,6 @@ pub record Changed (s at : ℕ) (w v : List ℕ) (slots : List (List Cell)) : Ty
   pub elder : Elder s at v slots
   pub same : between s at v ≡ between s at w
 
--- the three words from i on
-abbrev pub words_at : List ℕ → ℕ → Words
-words_at ws i = record { tag = get_or ws i 0; payload = get_or ws (i + 1) 0; offset = get_or ws (i + 2) 0 }
-
 -- a cell, or question 8
 
 unfoldable pub read_old : List (List Cell) → ℕ → ℕ → Res Cell

@@ -13,7 +13,7 @@ ghost use Rattle.model.specs.Collector.{holds, swap_cell};
 ghost use Rattle.model.specs.Calls.{cells_in};
 ghost use Rattle.trace.specs.Words.{listed};
 ghost use Rattle.words.specs.Source.{cells_from, count_of, whole_source};
-ghost use Rattle.slots.specs.Slots.{Packed, slots_of, slots_at, Elder, Changed, read_old, ReadBy, written, stepped, stepped_to, words_at, move_of};
+ghost use Rattle.slots.specs.Slots.{Packed, slots_of, slots_at, Elder, Changed, read_old, ReadBy, written, stepped, stepped_to, move_of};
 
 use value::Words;
 use words::Source;
@@ -44,18 +44,6 @@ pub fn held(lens: &[u64]) -> usize
 
 // ---- A cell is read or written
 
-fn cell_at(cells: &[u64], i: usize) -> Words
-    requires { i * 3 + 2 < length cells.now }
-    ensures { result ≡ words_at cells.now (3 * i) }
-{
-    let at = 3 * i;
-    Words {
-        tag: cells[at],
-        payload: cells[at + 1],
-        offset: cells[at + 2],
-    }
-}
-
 // The cell at (base, offset), if there is one.
 pub fn read_old(lens: &[u64], cells: &[u64], base: u64, offset: u64) -> Option<Words>
     requires { Packed lens.now cells.now (slots_of lens.now cells.now) }
@@ -70,7 +58,7 @@ pub fn read_old(lens: &[u64], cells: &[u64], base: u64, offset: u64) -> Option<W
     if n <= o {
         return None;
     }
-    Some(cell_at(cells, words::sum_first(lens, b) + o))
+    Some(Words::at(cells, words::sum_first(lens, b) + o))
 }
 
 // The three words of cell take the place of the cell at (b, o).

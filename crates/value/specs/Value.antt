@@ -1,5 +1,5 @@
 -- What a value is in the model: a cell. And what decoding three words gives.
-use Rattle.std.specs.Prelude.{◌≡◌, Bool, true, false, ℕ, Result, IfOk}
+use Rattle.std.specs.Prelude.{◌≡◌, Bool, true, false, List, ℕ, ◌+◌, get_or, Result, IfOk}
 use Rattle.std.specs.Float.{binary64}
 use Rattle.std.specs.Float.Ieee.{of_bits}
 use Rattle.std.specs.Int.{w64}
@@ -10,6 +10,7 @@ use Rattle.question.specs.declared.Question.{Question}
 use Rattle.model.specs.Records.{Cell, plain, ref, blank, cell_of, valid_words}
 use Rattle.value.specs.declared.Value.{Value}
 use Rattle.value.specs.declared.Value.TheVariants.{Uninitialized, Int, Bool as BoolV, Float as FloatV, Char, Pointer as PointerV}
+use Rattle.value.specs.declared.Words.{Words}
 use Rattle.value.specs.declared.Kind.{Kind}
 use Rattle.value.specs.declared.Kind.TheVariants as kind
 
@@ -32,6 +33,10 @@ value_cell (BoolV b) = plain 2 (bool_word b)
 value_cell (FloatV n b) = plain 3 b
 value_cell (Char c) = plain 4 c
 value_cell (PointerV p) = ref (record { heap = p.heap; base = p.base; off = of_z w64 p.offset })
+
+-- the three words from i on
+abbrev pub words_at : List ℕ → ℕ → Words
+words_at ws i = record { tag = get_or ws i 0; payload = get_or ws (i + 1) 0; offset = get_or ws (i + 2) 0 }
 
 -- a Float's number is that of its bits
 abbrev pub Whole : Value → Type 0

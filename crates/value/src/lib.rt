@@ -1,11 +1,11 @@
 // Values, and the three words of a cell: kind + 256 × heap, payload, offset.
 #![tactic(auto)]
 
-ghost use Rattle.std.specs.Prelude.{◌≡◌, true, [], ◌∷◌};
+ghost use Rattle.std.specs.Prelude.{◌≡◌, true, [], ◌∷◌, ◌+◌, ◌*◌, ◌≤◌, length};
 ghost use Rattle.std.specs.Float.{binary64};
 ghost use Rattle.std.specs.Float.Ieee.{of_bits};
 ghost use Rattle.model.specs.Records.{plain, cell_words, scalar, valid_plain, valid_words};
-ghost use Rattle.value.specs.Value.{kind_number, value_cell, Spelled, Decodes};
+ghost use Rattle.value.specs.Value.{kind_number, value_cell, words_at, Spelled, Decodes};
 
 use question::Question;
 
@@ -98,6 +98,19 @@ fn is_valid_plain(kind: u64, payload: u64) -> bool
 }
 
 impl Words {
+    // The i-th cell of these words.
+    pub fn at(cells: &[u64], i: usize) -> Words
+        requires { i * 3 + 3 ≤ length cells.now }
+        ensures { result ≡ words_at cells.now (3 * i) }
+    {
+        let at = 3 * i;
+        Words {
+            tag: cells[at],
+            payload: cells[at + 1],
+            offset: cells[at + 2],
+        }
+    }
+
     // Question 3 of one cell. An image is asked it of every cell, so the words are tested as they are, and no value is made.
     pub fn is_valid(self) -> bool
         ensures { result ≡ valid_words self.tag self.payload self.offset }
@@ -126,6 +139,20 @@ impl Words {
                 base: self.payload,
                 offset: self.offset.cast_signed(),
             }),
+        }
+    }
+}
+
+// Three words in their order.
+impl From<[u64; 3]> for Words {
+    ghost from_gives = { λ ws w. w ≡ words_at ws 0 };
+
+    fn from(words: [u64; 3]) -> Words {
+        let [tag, payload, offset] = words;
+        Words {
+            tag,
+            payload,
+            offset,
         }
     }
 }

@@ -14,8 +14,8 @@ sum_first-requires c = search (counts, rules)
 pub overflow_add-sum_first : goal.overflow_add-sum_first
 overflow_add-sum_first c = search (counts, rules)
 
-pub cell_at-requires : goal.cell_at-requires
-cell_at-requires c = search (counts, rules)
+pub at-requires : goal.at-requires
+at-requires c = search (counts, rules)
 
 pub returns : goal.returns
 returns c = search (counts, rules)

@@ -8,18 +8,18 @@ use Rattle.barrier.proofs.cells.count_cells.Goals as goal
 pub value-requires : goal.value-requires
 value-requires c =
     let (size, (is, long), rem) = c.in-Some.ensures.steps in
-    valid-here _ _ _ c.loop-words.invariant.2 _ _ is long
+    rw c.at-cell.ensures (valid-here _ _ _ c.loop-words.invariant.2 _ _ is long)
 
 pub returns-in_err-barrier : goal.returns-in_err-barrier
 returns-in_err-barrier c =
     let (size, (is, long), rem) = c.in-Some.ensures.steps in
-    let e = turn-refused _ _ _ c.loop-words.invariant.2 _ _ is long c.value.result c.count.result c.value.ensures c.count.ensures _ c.in_err-barrier.was in
+    let e = turn-refused _ _ _ c.loop-words.invariant.2 _ _ is long c.value.result c.count.result (rw c.at-cell.ensures at c.value.ensures) c.count.ensures _ c.in_err-barrier.was in
     passed_on _ c.from_residual.result _ c.from_residual.ensures.1 ∙ e
 
 pub loop-words-preserved-then-crosses : goal.loop-words-preserved-then-crosses
 loop-words-preserved-then-crosses c =
     let (size, (is, long), rem) = c.in-Some.ensures.steps in
-    let on = turn-done _ _ _ c.loop-words.invariant.2 _ _ is long size c.value.result c.count.result c.value.ensures c.count.ensures _ c.in_ok-barrier.was in
+    let on = turn-done _ _ _ c.loop-words.invariant.2 _ _ is long size c.value.result c.count.result (rw c.at-cell.ensures at c.value.ensures) c.count.ensures _ c.in_ok-barrier.was in
     (omega (arith, on.size), tt, on)
 
 pub loop-words-preserved : goal.loop-words-preserved
