@@ -7,7 +7,8 @@ use native.Mathlib.Nat.{add_assoc}
 use native.Mathlib.Numerals.{add-one}
 use native.Mathlib.Omega.{arith}
 use lib.ListN.{length, take, drop, set, length-append, length-drop}
-use lib.Seq.{paste-zero, append_snoc, set_split, take_at, drop_at, drop-drop, length-take-le, take-set-le}
+use Rattle.std.proofs.lemmas.List.{take-append-drop}
+use lib.Seq.{paste-zero, append_snoc, set_split, take_at, drop_at, drop-drop, length-take-le}
 use Rattle.figure.specs.Written.{written, Wrote}
 
 pub wrote_none : (b : List ℕ) (at : ℕ) → at ≤ length b → Wrote [] b at b at
@@ -56,19 +57,13 @@ wrote-both {s} {t} {b} {m} {a} {at} {e} {r} v w = record {
     both : length (s ++ t) ≡ length s + length t
     both = length-append s t
 
--- a text whose last byte is in place
-pub written_back : (b : List ℕ) (at : ℕ) (t : List ℕ) (x : ℕ) → at + length t < length b → written (set b (at + length t) x) at t ≡ written b at (t ++ x ∷ [])
-unfolding written
-written_back b at t x h =
-    rw (take-set-le at b n x (omega arith), set_split b n x h, drop_at (take n b) (x ∷ drop (suc n) b) n (length-take-le n b (omega arith)), behind)
-    (simp append_assoc)
-  where
-    n : ℕ
-    n = at + length t
-
-    behind : at + length (t ++ x ∷ []) ≡ suc n
-    behind = omega (arith, length-append t (x ∷ []))
-
 pub sign-length : (b : Bool) (x : ℕ) → length (cond b (x ∷ []) []) ≤ 1
 sign-length true x = omega arith
 sign-length false x = omega arith
+
+-- a text that was written so that it ends at a place
+pub wrote-to : (s b a : List ℕ) (at w r : ℕ) → w ≡ length s → at + length s ≤ length b → r + length s ≡ at + w → take r a ≡ take r b → drop r a ≡ s ++ drop (at + w) b → Wrote s b at a (at + w)
+unfolding written
+wrote-to s b a at w r e h p f t =
+    let z : r ≡ at = omega arith in
+    record { room = h; bytes = sym (take-append-drop r a) ∙ rw (f, t, z, e) (sym (append_assoc (take at b) s _)); behind = rw e refl }

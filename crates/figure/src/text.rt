@@ -36,28 +36,15 @@ pub fn minus(negative: bool, out: &mut [u8], at: usize) -> usize
 fn width(n: u64) -> usize
     ensures { result ≡ length (decimal_text n) }
 {
-    let mut count = 1;
-    let mut rest = n;
-    while 10 <= rest {
-        rest /= 10;
-        count += 1;
-    }
-    count
+    n.max(1).ilog10() as usize + 1
 }
 
-// From the last digit to the first.
 pub fn decimal(n: u64, out: &mut [u8], at: usize) -> usize
     requires { at + 20 ≤ length out.old }
     ensures { Wrote (decimal_text n) out.old at out.new result }
 {
     let end = at + width(n);
-    let mut i = end;
-    let mut rest = n;
-    while at < i {
-        i -= 1;
-        out[i] = (48 + rest % 10) as u8;
-        rest /= 10;
-    }
+    itoa::write_digits(n, out, end);
     end
 }
 

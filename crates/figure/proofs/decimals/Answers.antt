@@ -3,8 +3,4 @@ use Rattle.figure.proofs.decimals.Goals as goal
 
 pub returns : goal.returns
 returns c =
-    let third = c.before.before in
-    let second = third.before.before.before.before in
-    let first = second.before.before.before.before in
-    let point = first.before.before.before.before in
-    wrote-both (wrote-both (wrote-both point.byte-first.ensures first.digit-second.ensures) second.digit-third.ensures) third.digit.ensures
+    wrote-both (wrote-both (wrote-both c.byte-first.ensures c.digit-second.ensures) c.digit-third.ensures) c.digit.ensures

@@ -1,16 +1,18 @@
 use native.Mathlib.Omega.{arith}
-use borrow.Author.Rules.{rules}
-use Rattle.figure.proofs.Digits.{decimal-length, write-begin, write_again, write_done}
+use Rattle.figure.proofs.Digits.{decimal-is, decimal-length}
+use Rattle.figure.proofs.Writes.{wrote-to}
 use Rattle.figure.proofs.text.decimal.Goals as goal
 
 pub overflow_add-end : goal.overflow_add-end
 overflow_add-end c = omega (arith, c.width.ensures, decimal-length c.args.n)
 
-pub loop-i-init : goal.loop-i-init
-loop-i-init c = search (write-begin, rules)
-
-pub loop-i-preserved : goal.loop-i-preserved
-loop-i-preserved c = search (write_again, rules)
+pub write_digits-requires : goal.write_digits-requires
+write_digits-requires c =
+    rw (← (decimal-is c.args.n c.ranges.n.fits))
+    (omega (arith, c.width.ensures), omega (arith, c.width.ensures, decimal-length c.args.n, c.requires))
 
 pub returns : goal.returns
-returns c = search (write_done, rules)
+returns c =
+    let e = decimal-is c.args.n c.ranges.n.fits in
+    let w = c.write_digits.ensures in
+    wrote-to _ _ _ _ _ _ c.width.ensures (omega (arith, decimal-length c.args.n, c.requires)) (rw (← e) at w.start) w.before (rw (← e) at w.written)

@@ -1,12 +1,8 @@
-use borrow.Author.Rules.{rules}
-use Rattle.figure.proofs.Digits.{count-begin, count-again, count-done}
+use Rattle.std.proofs.Common.{sym}
+use Rattle.figure.proofs.Digits.{decimal-counted}
 use Rattle.figure.proofs.text.width.Goals as goal
 
-pub loop-rest-init : goal.loop-rest-init
-loop-rest-init c = search (count-begin, rules)
-
-pub loop-rest-preserved : goal.loop-rest-preserved
-loop-rest-preserved c = search (count-again, rules)
-
 pub returns : goal.returns
-returns c = search (count-done, rules)
+returns c =
+    let m = c.max.ensures in
+    sym (decimal-counted c.args.n c.ilog10.result c.ilog10.ensures.bound (rw m at c.ilog10.ensures.power_le) (rw m at c.ilog10.ensures.next_power_gt))
