@@ -11,6 +11,7 @@ ghost use Rattle.fields.specs.Fields.{Turns, bar_of, on_bar};
 ghost use Rattle.access.specs.Counting.{gone_if, crosses, count_of, recounted, on_counts, Leaves};
 
 use barrier::WriteBarrier;
+use image::formed::Formed;
 use question::Question;
 use value::Value;
 
@@ -53,7 +54,7 @@ fn count_alone(image: &mut [u64], own: u8, into: bool, v: Value) -> Result<(), Q
     requires { Image image.old (decode image.old) }
     ensures { Leaves (on_counts own (step_of into own (value_cell v)) (decode image.old)) image.old result image.new }
 {
-    let before = fields::barrier_of(image, own);
+    let before = fields::barrier_of(Formed { words: image }, own);
     let b = before.count(own, into, v)?;
     store_count(image, own, v, b);
     Ok(())
@@ -64,7 +65,7 @@ fn count_both(image: &mut [u64], own: u8, old: Value, new: Value) -> Result<(), 
     requires { Image image.old (decode image.old) }
     ensures { Leaves (on_counts own (recounted own true (value_cell old) (value_cell new)) (decode image.old)) image.old result image.new }
 {
-    let b = fields::barrier_of(image, own);
+    let b = fields::barrier_of(Formed { words: image }, own);
     let less = b.count_out(own, old)?;
     let more = less.count_in(own, new)?;
     store_count(image, own, old, less);

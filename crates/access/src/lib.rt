@@ -20,6 +20,7 @@ ghost use Rattle.fields.specs.Fields.{cell_in};
 ghost use Rattle.access.specs.Access.{pointer_of, stored_outcome, ValueOf, Loads, LoadsFrom};
 ghost use Rattle.access.specs.Counting.{store_young, store_old, Leaves};
 
+use image::formed::Formed;
 use question::Question;
 use value::{Pointer, Value, Words};
 
@@ -32,17 +33,15 @@ fn cell_value(w: Words) -> Value
 }
 
 // The nursery's i-th cell.
-fn young_value(image: &[u64], i: usize) -> Value
-    requires image { Image image.now (decode image.now) }
-    requires i_bound { i < (decode image.now).size.n }
-    ensures { ValueOf (get_or (decode image.now).young.cells i blank) result }
+fn young_value(image: Formed<'_>, i: usize) -> Value
+    requires { i < (decode image.words.now).size.n }
+    ensures { ValueOf (get_or (decode image.entry.words.now).young.cells i blank) result }
 {
     cell_value(fields::young_cell(image, i))
 }
 
-fn read_young(image: &[u64], base: u64, offset: i64) -> Result<Value, Question>
-    requires { Image image.now (decode image.now) }
-    ensures { Loads (read (decode image.now) (pointer 0 base (of_z w64 offset))) result }
+fn read_young(image: Formed<'_>, base: u64, offset: i64) -> Result<Value, Question>
+    ensures { Loads (read (decode image.entry.words.now) (pointer 0 base (of_z w64 offset))) result }
 {
     let n = fields::header_of(image).n as usize;
     let i = places::index(base, offset, n)?;
@@ -50,9 +49,8 @@ fn read_young(image: &[u64], base: u64, offset: i64) -> Result<Value, Question>
 }
 
 // A negative offset's word is above every length, and so outside the allocation.
-fn read_old(image: &[u64], base: u64, offset: i64) -> Result<Value, Question>
-    requires { Image image.now (decode image.now) }
-    ensures { Loads (read (decode image.now) (pointer 1 base (of_z w64 offset))) result }
+fn read_old(image: Formed<'_>, base: u64, offset: i64) -> Result<Value, Question>
+    ensures { Loads (read (decode image.entry.words.now) (pointer 1 base (of_z w64 offset))) result }
 {
     let o = offset.cast_unsigned();
     let Some(cell) = layout::read_elder(image, base, o) else {
@@ -62,9 +60,8 @@ fn read_old(image: &[u64], base: u64, offset: i64) -> Result<Value, Question>
 }
 
 // There is no other heap.
-pub fn read_formed(image: &[u64], p: Pointer) -> Result<Value, Question>
-    requires { Image image.now (decode image.now) }
-    ensures { Loads (read (decode image.now) (pointer_of p)) result }
+pub fn read_formed(image: Formed<'_>, p: Pointer) -> Result<Value, Question>
+    ensures { Loads (read (decode image.entry.words.now) (pointer_of p)) result }
 {
     let heap = p.heap;
     match heap {
@@ -78,7 +75,7 @@ pub fn read(image: &[u64], p: Pointer) -> Result<Value, Question>
     ensures { LoadsFrom image.now (pointer_of p) result }
 {
     image::check(image)?;
-    read_formed(image, p)
+    read_formed(Formed { words: image }, p)
 }
 
 // The value of a cell that 3 was asked of.
@@ -103,9 +100,9 @@ fn store_young(image: &mut [u64], i: usize, cell: &[u64]) -> Result<(), Question
     requires cell_value { value_good cell.now ≡ true }
     ensures { Leaves (store_young i (cell_in cell.now) (decode image.old)) image.old result image.new }
 {
-    let old = young_value(image, i);
+    let old = young_value(Formed { words: image }, i);
     let new = new_value(cell);
-    let end = fields::header_of(image).cursor;
+    let end = fields::header_of(Formed { words: image }).cursor;
     let out = (i as u64) < end;
     counts::recount(image, 0, out, old, new)?;
     fields::put_young_cell(image, i, cell);
@@ -117,7 +114,7 @@ fn write_young(image: &mut [u64], base: u64, offset: i64, cell: &[u64]) -> Resul
     requires cell_value { value_good cell.now ≡ true }
     ensures { Leaves (write (decode image.old) (pointer 0 base (of_z w64 offset)) (cell_in cell.now)) image.old result image.new }
 {
-    let n = fields::header_of(image).n as usize;
+    let n = fields::header_of(Formed { words: image }).n as usize;
     let i = places::index(base, offset, n)?;
     store_young(image, i, cell)
 }
@@ -149,7 +146,7 @@ fn write_old(image: &mut [u64], base: u64, offset: i64, cell: &[u64]) -> Result<
     requires cell_value { value_good cell.now ≡ true }
     ensures { Leaves (write (decode image.old) (pointer 1 base (of_z w64 offset)) (cell_in cell.now)) image.old result image.new }
 {
-    let old = read_old(image, base, offset)?;
+    let old = read_old(Formed { words: image }, base, offset)?;
     store_old(image, base, offset.cast_unsigned(), old, cell)
 }
 

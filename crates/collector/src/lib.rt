@@ -23,6 +23,7 @@ ghost use Rattle.collector.specs.Alloc.{Worked, moves_at, gave_outcome, alloc_ou
 
 use barrier::masks::Masks;
 use cycle::turns::{Gave, Request};
+use image::formed::Formed;
 use question::Question;
 use value::Pointer;
 
@@ -41,10 +42,9 @@ pub struct Allocation {
 }
 
 // The words of scratch that 4 asks for.
-fn scratch_for(image: &[u64], roots: &[u64]) -> usize
-    requires image { Image image.now (decode image.now) }
-    requires roots_value { roots_good roots.now ≡ true }
-    ensures { result ≡ scratch_length (decode image.now).size (length roots.now / 3) }
+fn scratch_for(image: Formed<'_>, roots: &[u64]) -> usize
+    requires { roots_good roots.now ≡ true }
+    ensures { result ≡ scratch_length (decode image.entry.words.now).size (length roots.now / 3) }
 {
     let h = fields::header_of(image);
     let n = h.n as usize;
@@ -59,7 +59,7 @@ fn stay_young(image: &mut [u64], amount: u64) -> Allocation
     requires amount_nonzero { (0 < amount) × (amount < (decode image.old).size.n - (decode image.old).young.cursor) }
     ensures { (roots : List ℕ) → roots_good roots ≡ true → allocated image.old roots (alloc (decode image.old) (cells_in roots) amount) ≡ alloc_outcome (Ok result) image.new roots }
 {
-    let base = fields::header_of(image).cursor;
+    let base = fields::header_of(Formed { words: image }).cursor;
     fields::bump(image, amount);
     let pointer = Pointer {
         heap: 0,
@@ -110,7 +110,7 @@ fn change_heap(
     ensures { Does (changes_step (moves_at (decode image.old).size (length roots.now / 3) moved scratch.now)) image.old (done_answer result) image.new }
 {
     let at = image.len();
-    let bases = cycle::scratch::bases_at(image, roots);
+    let bases = cycle::scratch::bases_at(Formed { words: image }, roots);
     pointers::change_all(image, &scratch[at..bases], &scratch[bases..], moved)
 }
 
@@ -124,7 +124,7 @@ fn collect_and_change(
     requires { Ready image.old roots.now scratch.old (New amount) 2 false }
     ensures { Worked amount image.old roots.now scratch.old result image.new scratch.new }
 {
-    let masks = Masks::of(fields::barrier_of(image, 0));
+    let masks = Masks::of(fields::barrier_of(Formed { words: image }, 0));
     let g = cycle::collect_and_push_allocation(
         image,
         roots,
@@ -139,14 +139,13 @@ fn collect_and_change(
 }
 
 // The roots change last, when nothing can refuse any more.
-fn change_roots(image: &[u64], roots: &mut [u64], scratch: &[u64], moved: usize)
-    requires image { Image image.now (decode image.now) }
+fn change_roots(image: Formed<'_>, roots: &mut [u64], scratch: &[u64], moved: usize)
     requires roots_value { roots_good roots.old ≡ true }
-    requires roots_in_bounds { scratch_length (decode image.now).size (length roots.old / 3) ≤ length scratch.now }
-    requires moved_in_bounds { moved ≤ length roots.old / 3 + 2 * (decode image.now).size.n }
-    ensures { roots.new ≡ cell_words (swap_roots (moves_at (decode image.now).size (length roots.old / 3) moved scratch.now) (cells_in roots.old)) }
+    requires roots_in_bounds { scratch_length (decode image.words.now).size (length roots.old / 3) ≤ length scratch.now }
+    requires moved_in_bounds { moved ≤ length roots.old / 3 + 2 * (decode image.words.now).size.n }
+    ensures { roots.new ≡ cell_words (swap_roots (moves_at (decode image.entry.words.now).size (length roots.old / 3) moved scratch.now) (cells_in roots.old)) }
 {
-    let at = image.len();
+    let at = image.words.len();
     let bases = cycle::scratch::bases_at(image, roots);
     pointers::change_roots(roots, &scratch[at..bases], &scratch[bases..], moved);
 }
@@ -164,10 +163,10 @@ fn collect_for(
     requires amount_nonzero { 0 < amount }
     ensures { allocated image.old roots.old (collect_and_alloc (decode image.old) (cells_in roots.old) amount) ≡ alloc_outcome result image.new roots.new }
 {
-    let used = saved::save(image, scratch);
+    let used = saved::save(Formed { words: image }, scratch);
     match collect_and_change(image, roots, scratch, amount) {
         Ok(g) => {
-            change_roots(image, roots, scratch, g.moved);
+            change_roots(Formed { words: image }, roots, scratch, g.moved);
             Ok(collected(g))
         }
         Err(q) => {
@@ -189,14 +188,14 @@ pub fn alloc_formed(
     if !image::roots_ok(roots) {
         return Err(Question::Cells);
     }
-    if scratch.len() < scratch_for(image, roots) {
+    if scratch.len() < scratch_for(Formed { words: image }, roots) {
         return Err(Question::Scratch);
     }
     if amount <= 0 {
         return Err(Question::Amount);
     }
     let cells = amount as u64;
-    if nursery::fits(image, cells) {
+    if nursery::fits(Formed { words: image }, cells) {
         return Ok(stay_young(image, cells));
     }
     collect_for(image, roots, scratch, cells)

@@ -6,19 +6,19 @@ ghost use Rattle.theorems.specs.Fit.{Image};
 ghost use Rattle.words.specs.Words.{padded};
 ghost use Rattle.collector.specs.Saving.{SavedTo};
 
+use image::formed::Formed;
 use layout::places;
 
 // Answers how many words were saved.
-pub fn save(image: &[u64], scratch: &mut [u64]) -> usize
-    requires image { Image image.now (decode image.now) }
-    requires image_in_bounds { length image.now ≤ length scratch.old }
-    ensures { SavedTo image.now result scratch.new }
+pub fn save(image: Formed<'_>, scratch: &mut [u64]) -> usize
+    requires { length image.words.now ≤ length scratch.old }
+    ensures { SavedTo image.entry.words.now result scratch.new }
 {
-    let l = places::layout_of(image);
+    let l = places::layout_of(image.words);
     let from = l.slots;
     let end = l.young;
-    let used = l.old + 3 * slots::in_use(&image[from..end]);
-    words::copy_words(scratch, 0, &image[..used]);
+    let used = l.old + 3 * slots::in_use(&image.words[from..end]);
+    words::copy_words(scratch, 0, &image.words[..used]);
     used
 }
 

@@ -18,6 +18,7 @@ ghost use Rattle.command.specs.State.{holding, heapless, Held, Ready};
 ghost use Rattle.command.specs.Steps.{target_answer, target_in, is_new, Acts, Performs, made_answer, made_words};
 
 pub use answers::Answer;
+use image::formed::Formed;
 use image::sizes::Sizes;
 use question::Question;
 use reader::{Access, Command};
@@ -120,7 +121,7 @@ fn load_in(image: &[u64], registers: &mut Registers, a: Access) -> Result<Answer
         return Err(Question::Heap);
     }
     let p = target_of(registers.get(a.pointer as usize), a.offset)?;
-    let v = access::read_formed(image, p)?;
+    let v = access::read_formed(Formed { words: image }, p)?;
     registers.set(a.register as usize, v);
     Ok(Answer::Load(v))
 }

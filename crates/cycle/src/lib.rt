@@ -13,6 +13,7 @@ ghost use Rattle.cycle.specs.Scratch.{parts_in};
 ghost use Rattle.cycle.specs.Turns.{turn, push_turn};
 ghost use Rattle.cycle.specs.Outcomes.{Ready, Ran};
 
+use image::formed::Formed;
 use question::Question;
 use turns::{Gave, Request, Tally};
 
@@ -29,7 +30,7 @@ pub fn alloc_or_collect(
     requires { Ready image.old roots.now scratch.old what left collected }
     ensures { Ran (turn (parts_in (decode image.old).size scratch.old) (cells_in roots.now) masks.now what left collected) left collected image.old roots.now scratch.old result image.new scratch.new }
 {
-    if turns::must_collect(image, what, left, collected) {
+    if turns::must_collect(Formed { words: image }, what, left, collected) {
         return collect_and_push_allocation(image, roots, masks, scratch, what, left, collected);
     }
     turns::give_in(image, scratch, what, left)
@@ -62,7 +63,7 @@ pub fn collect_and_push_allocation(
     for i in 0..c.survivors {
         let base = scratch::survivor(scratch, image.len(), i);
         let g = alloc_or_collect(image, roots, masks, scratch, Request::Move(base), 1, false)?;
-        tally = turns::note(image, roots, scratch, i, tally, g);
+        tally = turns::note(Formed { words: image }, roots, scratch, i, tally, g);
     }
     let g = alloc_or_collect(image, roots, masks, scratch, what, 2, true)?;
     Ok(g.finished(c, tally))

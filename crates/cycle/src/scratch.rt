@@ -10,29 +10,28 @@ ghost use Rattle.elder.specs.Steps.{place_step};
 ghost use Rattle.cycle.specs.Scratch.{bases_at, old_list_at, young_in, parts_in, Saved, SweptIn, CollectedIn};
 
 use barrier::masks::Masks;
+use image::formed::Formed;
 use layout::places;
 use nursery::Collected;
 use question::Question;
 use words::Source;
 
 // Where the new bases stand.
-pub fn bases_at(image: &[u64], roots: &[u64]) -> usize
-    requires image { Image image.now (decode image.now) }
-    requires roots_bound { old_list_at (decode image.now).size (length roots.now / 3) < 2 ^ 64 }
-    ensures { result ≡ bases_at (decode image.now).size (length roots.now / 3) }
+pub fn bases_at(image: Formed<'_>, roots: &[u64]) -> usize
+    requires { old_list_at (decode image.words.now).size (length roots.now / 3) < 2 ^ 64 }
+    ensures { result ≡ bases_at (decode image.entry.words.now).size (length roots.now / 3) }
 {
     let n = fields::header_of(image).n as usize;
-    image.len() + 3 * (roots.len() / 3 + 2 * n)
+    image.words.len() + 3 * (roots.len() / 3 + 2 * n)
 }
 
 // Where the elder's members are listed.
-fn old_list_at(image: &[u64], roots: &[u64]) -> usize
-    requires image { Image image.now (decode image.now) }
-    requires roots_bound { old_list_at (decode image.now).size (length roots.now / 3) < 2 ^ 64 }
-    ensures { result ≡ old_list_at (decode image.now).size (length roots.now / 3) }
+fn old_list_at(image: Formed<'_>, roots: &[u64]) -> usize
+    requires { old_list_at (decode image.words.now).size (length roots.now / 3) < 2 ^ 64 }
+    ensures { result ≡ old_list_at (decode image.entry.words.now).size (length roots.now / 3) }
 {
     let n = fields::header_of(image).n as usize;
-    image.len() + 4 * (roots.len() / 3 + 2 * n)
+    image.words.len() + 4 * (roots.len() / 3 + 2 * n)
 }
 
 // The base of survivor i.
@@ -54,7 +53,7 @@ pub fn sweep(
     requires roots_in_bounds { scratch_length (decode image.old).size (length roots.now / 3) ≤ length scratch.old }
     ensures { SweptIn image.old roots.now masks.now scratch.old result image.new scratch.new }
 {
-    let at = old_list_at(image, roots);
+    let at = old_list_at(Formed { words: image }, roots);
     elder::collect(image, roots, masks, &mut scratch[at..])
 }
 
@@ -68,7 +67,7 @@ pub fn collect_nursery(
     requires roots_in_bounds { scratch_length (decode image.old).size (length roots.now / 3) ≤ length scratch.old }
     ensures { CollectedIn image.old roots.now scratch.old result image.new scratch.new }
 {
-    let masks = Masks::of(fields::barrier_of(image, 1));
+    let masks = Masks::of(fields::barrier_of(Formed { words: image }, 1));
     let at = image.len();
     nursery::collect(image, roots, masks.as_slice(), &mut scratch[at..])
 }

@@ -8,6 +8,7 @@ ghost use Rattle.cycle.specs.Turns.{bumped, must_collect, give_in};
 ghost use Rattle.cycle.specs.Outcomes.{Asked, Gives, gave_at, swept_gave, finished_gave};
 
 use crate::scratch;
+use image::formed::Formed;
 use nursery::Collected;
 use question::Question;
 use words::Source;
@@ -75,9 +76,8 @@ impl Gave {
 }
 
 // Has the generation to be collected before it can give?
-pub fn must_collect(image: &[u64], what: Request, left: u64, collected: bool) -> bool
-    requires { Image image.now (decode image.now) }
-    ensures { Reads (must_collect what left collected) image.now result }
+pub fn must_collect(image: Formed<'_>, what: Request, left: u64, collected: bool) -> bool
+    ensures { Reads (must_collect what left collected) image.entry.words.now result }
 {
     if left == 1 {
         if collected {
@@ -96,7 +96,7 @@ fn bump(image: &mut [u64], amount: u64) -> Gave
     requires amount_nonzero { (0 < amount) × (amount < (decode image.old).size.n - (decode image.old).young.cursor) }
     ensures { Gives (bumped amount) image.old (Ok result) image.new }
 {
-    let base = fields::header_of(image).cursor;
+    let base = fields::header_of(Formed { words: image }).cursor;
     fields::bump(image, amount);
     Gave::at(0, base)
 }
@@ -127,18 +127,17 @@ pub fn give_in(
 
 // Survivor i stands at the base that was given.
 pub fn note(
-    image: &[u64],
+    image: Formed<'_>,
     roots: &[u64],
     scratch: &mut [u64],
     i: usize,
     tally: Tally,
     g: Gave,
 ) -> Tally
-    requires image { Image image.now (decode image.now) }
-    requires roots_in_bounds { old_list_at (decode image.now).size (length roots.now / 3) ≤ length scratch.old }
-    requires i_in_bounds { i < length roots.now / 3 + 2 * (decode image.now).size.n }
+    requires roots_in_bounds { old_list_at (decode image.words.now).size (length roots.now / 3) ≤ length scratch.old }
+    requires i_in_bounds { i < length roots.now / 3 + 2 * (decode image.words.now).size.n }
     requires sweeps_bound { (tally.sweeps + g.sweeps < 2 ^ 64) × (tally.entered + g.entered < 2 ^ 64) }
-    ensures scratch_after { scratch.new ≡ set scratch.old (bases_at (decode image.now).size (length roots.now / 3) + i) g.base }
+    ensures scratch_after { scratch.new ≡ set scratch.old (bases_at (decode image.entry.words.now).size (length roots.now / 3) + i) g.base }
     ensures sweeps_value { (result.sweeps ≡ tally.sweeps + g.sweeps) × (result.entered ≡ tally.entered + g.entered) }
 {
     let at = scratch::bases_at(image, roots);

@@ -20,47 +20,50 @@ ghost use Rattle.elder.specs.Steps.{Listed, swept, Collects, collect_with, colle
 
 use barrier::{WriteBarrier, cells};
 use image::counts::MOST;
+use image::formed::Formed;
 use layout::places;
 use question::Question;
 use words::Source;
 
 // Does it hold T allocations or more?
-pub fn is_full(image: &[u64]) -> bool
-    requires { Image image.now (decode image.now) }
-    ensures { Reads (λ h. leb h.size.t (held h.old.slots)) image.now result }
+pub fn is_full(image: Formed<'_>) -> bool
+    ensures { Reads (λ h. leb h.size.t (held h.old.slots)) image.entry.words.now result }
 {
-    let l = places::layout_of(image);
-    let n = slots::held(l.slot_lengths(image)) as u64;
+    let l = places::layout_of(image.words);
+    let n = slots::held(l.slot_lengths(image.words)) as u64;
     fields::header_of(image).t <= n
 }
 
 // ---- Collection
 
 // Lists the members of a collection; how many there are.
-fn members(image: &[u64], roots: &[u64], masks: &[u64], list: &mut [u64]) -> usize
-    requires image { Image image.now (decode image.now) }
-    requires image_in_bounds { 3 * (length roots.now / 3 + (decode image.now).size.s + (decode image.now).size.c) ≤ length list.old }
-    ensures { Listed (cells_in roots.now) masks.now image.now result list.new }
+fn members(image: Formed<'_>, roots: &[u64], masks: &[u64], list: &mut [u64]) -> usize
+    requires { 3 * (length roots.now / 3 + (decode image.words.now).size.s + (decode image.words.now).size.c) ≤ length list.old }
+    ensures { Listed (cells_in roots.now) masks.now image.entry.words.now result list.new }
 {
-    let l = places::layout_of(image);
+    let l = places::layout_of(image.words);
     trace::list_members(
         1,
         roots,
-        l.slot_lengths(image),
-        l.elder_cells(image),
+        l.slot_lengths(image.words),
+        l.elder_cells(image.words),
         masks,
         list,
     )
 }
 
 // The cells of what is no member counted out.
-fn count_dropped(image: &[u64], members: &[u64]) -> Result<WriteBarrier, Question>
-    requires { Image image.now (decode image.now) }
-    ensures { Reads (λ h. count_dropped (listed members.now) 0 h.old.slots h.old.bar) image.now (answer barrier_of result) }
+fn count_dropped(image: Formed<'_>, members: &[u64]) -> Result<WriteBarrier, Question>
+    ensures { Reads (λ h. count_dropped (listed members.now) 0 h.old.slots h.old.bar) image.entry.words.now (answer barrier_of result) }
 {
-    let l = places::layout_of(image);
+    let l = places::layout_of(image.words);
     let b = fields::barrier_of(image, 1);
-    drops::count_dropped(l.slot_lengths(image), l.elder_cells(image), members, b)
+    drops::count_dropped(
+        l.slot_lengths(image.words),
+        l.elder_cells(image.words),
+        members,
+        b,
+    )
 }
 
 // What is no member leaves; this barrier stays.
@@ -80,10 +83,10 @@ fn collect_with(image: &mut [u64], members: &[u64]) -> Result<u64, Question>
     requires { Image image.old (decode image.old) }
     ensures { Collects (collect_with (listed members.now)) image.old result image.new }
 {
-    if MOST <= fields::header_of(image).old_collections {
+    if MOST <= fields::header_of(Formed { words: image }).old_collections {
         return Err(Question::Bound);
     }
-    let b = count_dropped(image, members)?;
+    let b = count_dropped(Formed { words: image }, members)?;
     sweep(image, members, b);
     Ok((members.len() / 3) as u64)
 }
@@ -99,7 +102,7 @@ pub fn collect(
     requires image_in_bounds { 3 * (length roots.now / 3 + (decode image.old).size.s + (decode image.old).size.c) ≤ length list.old }
     ensures { Does (collect_step (cells_in roots.now) masks.now) image.old (number_answer result) image.new }
 {
-    let count = members(image, roots, masks, list);
+    let count = members(Formed { words: image }, roots, masks, list);
     collect_with(image, &list[..3 * count])
 }
 
@@ -122,7 +125,7 @@ fn count_given(image: &mut [u64], src: &[u64]) -> Result<(), Question>
     if !cells::any_crosses(src, 1) {
         return Ok(());
     }
-    let b = cells::count_cells(src, 1, true, fields::barrier_of(image, 1))?;
+    let b = cells::count_cells(src, 1, true, fields::barrier_of(Formed { words: image }, 1))?;
     fields::put_barrier(image, 1, b);
     Ok(())
 }
@@ -145,7 +148,7 @@ pub fn place(image: &mut [u64], src: Source<'_>) -> Result<u64, Question>
     requires src_whole { whole_source src ≡ true }
     ensures { Does (source_step src.entry) image.old (number_answer result) image.new }
 {
-    let b = layout::room_for(image, src.count())?;
+    let b = layout::room_for(Formed { words: image }, src.count())?;
     count_in(image, src)?;
     layout::put(image, b, src);
     Ok(b as u64)

@@ -12,6 +12,7 @@ ghost use Rattle.barrier.specs.Counts.{barrier_of};
 ghost use Rattle.fields.specs.Fields.{Reads, Turns, on_young, on_old, with_bar, bar_of, on_bar, is_present, with_count, flag_at, counts_at, with_cell, restarted, collected_once, cell_in, words_of, YoungCells, CellAt};
 
 use barrier::WriteBarrier;
+use image::formed::Formed;
 use image::layout;
 use value::Words;
 
@@ -28,26 +29,25 @@ pub struct Header {
     pub old_collections: u64,
 }
 
-pub fn header_of(image: &[u64]) -> Header
-    requires { Image image.now (decode image.now) }
-    ensures n { Reads (λ h. h.size.n) image.now result.n }
-    ensures t { Reads (λ h. h.size.t) image.now result.t }
-    ensures s { Reads (λ h. h.size.s) image.now result.s }
-    ensures c { Reads (λ h. h.size.c) image.now result.c }
-    ensures cursor { Reads (λ h. h.young.cursor) image.now result.cursor }
-    ensures young_collections { Reads (λ h. h.young.colls) image.now result.young_collections }
-    ensures promotions { Reads (λ h. h.young.proms) image.now result.promotions }
-    ensures old_collections { Reads (λ h. h.old.colls) image.now result.old_collections }
+pub fn header_of(image: Formed<'_>) -> Header
+    ensures n { Reads (λ h. h.size.n) image.entry.words.now result.n }
+    ensures t { Reads (λ h. h.size.t) image.entry.words.now result.t }
+    ensures s { Reads (λ h. h.size.s) image.entry.words.now result.s }
+    ensures c { Reads (λ h. h.size.c) image.entry.words.now result.c }
+    ensures cursor { Reads (λ h. h.young.cursor) image.entry.words.now result.cursor }
+    ensures young_collections { Reads (λ h. h.young.colls) image.entry.words.now result.young_collections }
+    ensures promotions { Reads (λ h. h.young.proms) image.entry.words.now result.promotions }
+    ensures old_collections { Reads (λ h. h.old.colls) image.entry.words.now result.old_collections }
 {
     Header {
-        n: image[layout::SIZE_N],
-        t: image[layout::SIZE_T],
-        s: image[layout::SIZE_S],
-        c: image[layout::SIZE_C],
-        cursor: image[layout::CURSOR],
-        young_collections: image[layout::YOUNG_COLLECTIONS],
-        promotions: image[layout::PROMOTIONS],
-        old_collections: image[layout::OLD_COLLECTIONS],
+        n: image.words[layout::SIZE_N],
+        t: image.words[layout::SIZE_T],
+        s: image.words[layout::SIZE_S],
+        c: image.words[layout::SIZE_C],
+        cursor: image.words[layout::CURSOR],
+        young_collections: image.words[layout::YOUNG_COLLECTIONS],
+        promotions: image.words[layout::PROMOTIONS],
+        old_collections: image.words[layout::OLD_COLLECTIONS],
     }
 }
 
@@ -73,13 +73,12 @@ fn counts_place(own: u8) -> usize
 }
 
 // The barrier of heap `own`.
-pub fn barrier_of(image: &[u64], own: u8) -> WriteBarrier
-    requires { Image image.now (decode image.now) }
-    ensures { Reads (λ h. bar_of own h) image.now (barrier_of result) }
+pub fn barrier_of(image: Formed<'_>, own: u8) -> WriteBarrier
+    ensures { Reads (λ h. bar_of own h) image.entry.words.now (barrier_of result) }
 {
     let at = counts_place(own);
     let end = at + WriteBarrier::SIZE;
-    barrier::words::load(image[flag_place(own)], &image[at..end])
+    barrier::words::load(image.words[flag_place(own)], &image.words[at..end])
 }
 
 pub fn put_barrier(image: &mut [u64], own: u8, b: WriteBarrier)
@@ -93,11 +92,10 @@ pub fn put_barrier(image: &mut [u64], own: u8, b: WriteBarrier)
     image[flag_place(own)] = barrier::words::flag_word(b);
 }
 
-pub fn is_present(image: &[u64], own: u8) -> bool
-    requires { Image image.now (decode image.now) }
-    ensures { Reads (λ h. is_present (bar_of own h)) image.now result }
+pub fn is_present(image: Formed<'_>, own: u8) -> bool
+    ensures { Reads (λ h. is_present (bar_of own h)) image.entry.words.now result }
 {
-    image[flag_place(own)] == 1
+    image.words[flag_place(own)] == 1
 }
 
 // An absent barrier's count words are zero, so that the others are right when it becomes present.
@@ -117,9 +115,8 @@ struct Part {
     end: usize,
 }
 
-fn young_part(image: &[u64]) -> Part
-    requires { Image image.now (decode image.now) }
-    ensures { YoungCells image.now result }
+fn young_part(image: Formed<'_>) -> Part
+    ensures { YoungCells image.entry.words.now result }
 {
     let h = header_of(image);
     let n = h.n as usize;
@@ -141,15 +138,14 @@ fn cell_at(cells: &[u64], i: usize) -> Words
     }
 }
 
-pub fn young_cell(image: &[u64], i: usize) -> Words
-    requires image { Image image.now (decode image.now) }
-    requires i_bound { i < (decode image.now).size.n }
-    ensures { Reads (λ h. cell_words (get_or h.young.cells i blank ∷ [])) image.now (words_of result) }
+pub fn young_cell(image: Formed<'_>, i: usize) -> Words
+    requires { i < (decode image.words.now).size.n }
+    ensures { Reads (λ h. cell_words (get_or h.young.cells i blank ∷ [])) image.entry.words.now (words_of result) }
 {
     let p = young_part(image);
     let from = p.from;
     let end = p.end;
-    cell_at(&image[from..end], i)
+    cell_at(&image.words[from..end], i)
 }
 
 pub fn put_young_cell(image: &mut [u64], i: usize, cell: &[u64])
@@ -158,7 +154,7 @@ pub fn put_young_cell(image: &mut [u64], i: usize, cell: &[u64])
     requires cell_len { (length cell.now ≡ 3) × (whole_cells cell.now ≡ true) }
     ensures { Turns (on_young (with_cell i (cell_in cell.now))) image.old image.new }
 {
-    let p = young_part(image);
+    let p = young_part(Formed { words: image });
     let from = p.from;
     let end = p.end;
     words::copy_words(&mut image[from..end], 3 * i, cell);
@@ -170,7 +166,7 @@ pub fn bump(image: &mut [u64], amount: u64)
     requires amount_nonzero { (0 < amount) × (amount < (decode image.old).size.n - (decode image.old).young.cursor) }
     ensures { Turns (on_young (λ y. bump y amount)) image.old image.new }
 {
-    let at = header_of(image).cursor;
+    let at = header_of(Formed { words: image }).cursor;
     image[layout::LENGTHS + at as usize] = amount;
     image[layout::CURSOR] = at + amount;
 }
@@ -181,7 +177,7 @@ fn restart(image: &mut [u64], collections: u64, promotions: u64)
     requires collections_le_most { (collections ≤ most) × (promotions ≤ most) }
     ensures { Turns (on_young (restarted collections promotions)) image.old image.new }
 {
-    let behind = layout::slot_lengths(header_of(image).n as usize);
+    let behind = layout::slot_lengths(header_of(Formed { words: image }).n as usize);
     words::zero_from(&mut image[layout::LENGTHS..behind], 0);
     image[layout::CURSOR] = 0;
     image[layout::YOUNG_COLLECTIONS] = collections;
@@ -193,8 +189,8 @@ fn clear_young_barrier(image: &mut [u64])
     requires { Image image.old (decode image.old) }
     ensures { Turns (on_young (with_bar absent)) image.old image.new }
 {
-    if is_present(image, 0) {
-        let b = barrier_of(image, 0);
+    if is_present(Formed { words: image }, 0) {
+        let b = barrier_of(Formed { words: image }, 0);
         put_barrier(image, 0, b.clear());
     }
 }
@@ -205,7 +201,7 @@ pub fn empty_nursery(image: &mut [u64], visits: u64)
     requires image_bound { ((decode image.old).young.colls < most) × ((decode image.old).young.proms + visits ≤ most) }
     ensures { Turns (on_young (λ y. emptied y visits)) image.old image.new }
 {
-    let h = header_of(image);
+    let h = header_of(Formed { words: image });
     let collections = h.young_collections + 1;
     let moved = h.promotions + visits;
     clear_young_barrier(image);
@@ -217,5 +213,5 @@ pub fn count_old_collection(image: &mut [u64])
     requires image_bound { (decode image.old).old.colls < most }
     ensures { Turns (on_old collected_once) image.old image.new }
 {
-    image[layout::OLD_COLLECTIONS] = header_of(image).old_collections + 1;
+    image[layout::OLD_COLLECTIONS] = header_of(Formed { words: image }).old_collections + 1;
 }

@@ -26,6 +26,7 @@ ghost use Rattle.heap_c.specs.Replies.{words_of, allocation_words, figure_words,
 
 use collector::Allocation;
 use figure::Figure;
+use image::formed::Formed;
 use image::sizes::Sizes;
 use question::Question;
 use report::Statistics;
@@ -173,7 +174,7 @@ pub extern "C" fn heap_read_formed(
     ensures { Answers (on_formed (reads (pointer heap base (of_z w64 offset))) image.now).answer out.old result out.new }
 {
     answer(
-        access::read_formed(image, Pointer { heap, base, offset }),
+        access::read_formed(Formed { words: image }, Pointer { heap, base, offset }),
         out,
     )
 }

@@ -4,6 +4,7 @@
 mod cells;
 pub mod counts;
 mod form;
+pub mod formed;
 pub mod layout;
 mod lengths;
 pub mod sizes;

@@ -17,18 +17,19 @@ ghost use Rattle.words.specs.Source.{cells_from, count_of, whole_source};
 ghost use Rattle.slots.specs.Slots.{ReadBy, written, move_of};
 ghost use Rattle.layout.specs.Elder.{Turned, fit_answer, fit_for, fit_words};
 
+use image::formed::Formed;
 use question::Question;
 use slots::Move;
 use value::Words;
 use words::Source;
 
 // The elder's cell at (base, offset), if there is one.
-pub fn read_elder(image: &[u64], base: u64, offset: u64) -> Option<Words>
-    requires { Image image.now (decode image.now) }
-    ensures { ReadBy (read (decode image.now) (pointer 1 base offset)) result }
+pub fn read_elder(image: Formed<'_>, base: u64, offset: u64) -> Option<Words>
+    ensures { ReadBy (read (decode image.entry.words.now) (pointer 1 base offset)) result }
 {
-    let l = places::layout_of(image);
-    slots::read_old(l.slot_lengths(image), l.elder_cells(image), base, offset)
+    let l = places::layout_of(image.words);
+    let lens = l.slot_lengths(image.words);
+    slots::read_old(lens, l.elder_cells(image.words), base, offset)
 }
 
 // The three words of cell take the place of the elder's cell at (base, offset).
@@ -68,12 +69,11 @@ fn fit_in(lens: &[u64], c: usize, len: usize) -> Result<usize, Question>
 }
 
 // Question 7 of len cells: the base of a new allocation, if there is room for it.
-pub fn room_for(image: &[u64], len: usize) -> Result<usize, Question>
-    requires { Image image.now (decode image.now) }
-    ensures { fit_answer result ≡ fit_for len (decode image.now) }
+pub fn room_for(image: Formed<'_>, len: usize) -> Result<usize, Question>
+    ensures { fit_answer result ≡ fit_for len (decode image.entry.words.now) }
 {
-    let l = places::layout_of(image);
-    fit_in(l.slot_lengths(image), l.c, len)
+    let l = places::layout_of(image.words);
+    fit_in(l.slot_lengths(image.words), l.c, len)
 }
 
 // These cells become the allocation at b, the base that `room_for` answered.

@@ -12,6 +12,7 @@ ghost use Rattle.fields.specs.Fields.{Reads};
 ghost use Rattle.nursery.specs.Steps.{Listed, collected_answer, collect_step};
 
 use image::counts::MOST;
+use image::formed::Formed;
 use layout::places;
 use question::Question;
 
@@ -23,39 +24,36 @@ pub struct Collected {
 }
 
 // Is the amount below N − cursor?
-pub fn fits(image: &[u64], amount: u64) -> bool
-    requires { Image image.now (decode image.now) }
-    ensures { Reads (λ h. ltb amount (h.size.n - h.young.cursor)) image.now result }
+pub fn fits(image: Formed<'_>, amount: u64) -> bool
+    ensures { Reads (λ h. ltb amount (h.size.n - h.young.cursor)) image.entry.words.now result }
 {
     let h = fields::header_of(image);
     amount < h.n - h.cursor
 }
 
 // Lists the members of a collection; how many there are.
-fn members(image: &[u64], roots: &[u64], masks: &[u64], list: &mut [u64]) -> usize
-    requires image { Image image.now (decode image.now) }
-    requires image_in_bounds { 3 * (length roots.now / 3 + 2 * (decode image.now).size.n) ≤ length list.old }
-    ensures { Listed (cells_in roots.now) masks.now image.now result list.new }
+fn members(image: Formed<'_>, roots: &[u64], masks: &[u64], list: &mut [u64]) -> usize
+    requires { 3 * (length roots.now / 3 + 2 * (decode image.words.now).size.n) ≤ length list.old }
+    ensures { Listed (cells_in roots.now) masks.now image.entry.words.now result list.new }
 {
-    let l = places::layout_of(image);
+    let l = places::layout_of(image.words);
     trace::list_members(
         0,
         roots,
-        l.young_lengths(image),
-        l.young_cells(image),
+        l.young_lengths(image.words),
+        l.young_cells(image.words),
         masks,
         list,
     )
 }
 
 // Question 6 of the first count entries.
-fn all_allocated(image: &[u64], list: &[u64], count: usize) -> bool
-    requires image { Image image.now (decode image.now) }
-    requires count_in_bounds { 3 * count ≤ length list.now }
-    ensures { Reads (λ h. all_allocated h.young (members count list.now)) image.now result }
+fn all_allocated(image: Formed<'_>, list: &[u64], count: usize) -> bool
+    requires { 3 * count ≤ length list.now }
+    ensures { Reads (λ h. all_allocated h.young (members count list.now)) image.entry.words.now result }
 {
-    let l = places::layout_of(image);
-    survivors::all_allocated(l.young_lengths(image), &list[..3 * count])
+    let l = places::layout_of(image.words);
+    survivors::all_allocated(l.young_lengths(image.words), &list[..3 * count])
 }
 
 // A collection. The survivors stand in the lent words, sorted.
@@ -69,13 +67,13 @@ pub fn collect(
     requires image_in_bounds { 3 * (length roots.now / 3 + 2 * (decode image.old).size.n) ≤ length list.old }
     ensures { Does (collect_step (cells_in roots.now) masks.now) image.old (collected_answer result list.new) image.new }
 {
-    let h = fields::header_of(image);
+    let h = fields::header_of(Formed { words: image });
     if MOST <= h.young_collections {
         return Err(Question::Bound);
     }
-    let entered = members(image, roots, masks, list);
+    let entered = members(Formed { words: image }, roots, masks, list);
     let survivors = survivors::survivors(list, entered);
-    if !all_allocated(image, list, survivors) {
+    if !all_allocated(Formed { words: image }, list, survivors) {
         return Err(Question::Allocation);
     }
     let visits = entered as u64;

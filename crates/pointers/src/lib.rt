@@ -16,6 +16,7 @@ ghost use Rattle.slots.specs.Slots.{move_of};
 ghost use Rattle.fields.specs.Fields.{Turns, on_young};
 ghost use Rattle.pointers.specs.Steps.{swapped_young, count_moved, change_step, changes_step, move_at, moves_in};
 
+use image::formed::Formed;
 use layout::places;
 use question::Question;
 use slots::Move;
@@ -28,7 +29,7 @@ fn swap_young(image: &mut [u64], moved: Move) -> usize
     ensures turns { Turns (on_young (swapped_young (move_of moved))) image.old image.new }
     ensures value { result ≡ length (keep_if (holds (move_of moved).0) (take (decode image.old).young.cursor (decode image.old).young.cells)) }
 {
-    let n = fields::header_of(image).cursor as usize;
+    let n = fields::header_of(Formed { words: image }).cursor as usize;
     let l = places::layout_of(image);
     let from = l.young;
     let end = from + 3 * n;
@@ -43,7 +44,12 @@ fn count(image: &mut [u64], own: u8, k: usize, moved: Move) -> Result<(), Questi
     if k == 0 {
         return Ok(());
     }
-    let b = changes::count_changes(k, own, moved, fields::barrier_of(image, own))?;
+    let b = changes::count_changes(
+        k,
+        own,
+        moved,
+        fields::barrier_of(Formed { words: image }, own),
+    )?;
     fields::put_barrier(image, own, b);
     Ok(())
 }

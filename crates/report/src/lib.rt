@@ -13,6 +13,7 @@ ghost use Rattle.fields.specs.Fields.{Reads, bar_of};
 ghost use Rattle.report.specs.Numbers.{young_numbers, old_numbers, numbers, report_outcome, Fills};
 
 use image::counts::MOST;
+use image::formed::Formed;
 use layout::places;
 use question::Question;
 
@@ -67,30 +68,27 @@ impl From<Statistics> for [u64; 11] {
 
 // ---- The numbers
 
-fn young_allocations(image: &[u64]) -> u64
-    requires { Image image.now (decode image.now) }
-    ensures { Reads (λ h. length (places 0 h.young.lens)) image.now result }
+fn young_allocations(image: Formed<'_>) -> u64
+    ensures { Reads (λ h. length (places 0 h.young.lens)) image.entry.words.now result }
 {
     let end = image::layout::slot_lengths(fields::header_of(image).n as usize);
-    slots::held(&image[image::layout::LENGTHS..end]) as u64
+    slots::held(&image.words[image::layout::LENGTHS..end]) as u64
 }
 
 // The sum of the counts of heap `own`'s barrier: the nursery's for 0, else the elder's. An absent one has only zeros in the image.
-fn references(image: &[u64], own: u8) -> u64
-    requires { Image image.now (decode image.now) }
-    ensures { Reads (λ h. sum (counts (bar_of own h))) image.now result }
+fn references(image: Formed<'_>, own: u8) -> u64
+    ensures { Reads (λ h. sum (counts (bar_of own h))) image.entry.words.now result }
 {
     let counts = if own == 0 {
-        &image[image::layout::YOUNG_COUNTS..image::layout::OLD_COUNTS]
+        &image.words[image::layout::YOUNG_COUNTS..image::layout::OLD_COUNTS]
     } else {
-        &image[image::layout::OLD_COUNTS..image::layout::LENGTHS]
+        &image.words[image::layout::OLD_COUNTS..image::layout::LENGTHS]
     };
     slots::in_use(counts) as u64
 }
 
-fn young_numbers(image: &[u64]) -> Nursery
-    requires { Image image.now (decode image.now) }
-    ensures { Reads (λ h. take 6 (statistics h)) image.now (young_numbers result) }
+fn young_numbers(image: Formed<'_>) -> Nursery
+    ensures { Reads (λ h. take 6 (statistics h)) image.entry.words.now (young_numbers result) }
 {
     let h = fields::header_of(image);
     let collections = h.young_collections;
@@ -109,16 +107,15 @@ fn young_numbers(image: &[u64]) -> Nursery
     }
 }
 
-fn old_numbers(image: &[u64]) -> Elder
-    requires { Image image.now (decode image.now) }
-    ensures { Reads (λ h. take 4 (drop 6 (statistics h))) image.now (old_numbers result) }
+fn old_numbers(image: Formed<'_>) -> Elder
+    ensures { Reads (λ h. take 4 (drop 6 (statistics h))) image.entry.words.now (old_numbers result) }
 {
-    let l = places::layout_of(image);
+    let l = places::layout_of(image.words);
     let from = l.slots;
     let end = l.young;
     let collections = fields::header_of(image).old_collections;
-    let allocations = slots::held(&image[from..end]) as u64;
-    let cells = slots::in_use(&image[from..end]) as u64;
+    let allocations = slots::held(&image.words[from..end]) as u64;
+    let cells = slots::in_use(&image.words[from..end]) as u64;
     let references = references(image, 1);
     Elder {
         collections,
@@ -129,9 +126,8 @@ fn old_numbers(image: &[u64]) -> Elder
 }
 
 // The leak flag is always 0.
-fn take_numbers(image: &[u64]) -> Statistics
-    requires { Image image.now (decode image.now) }
-    ensures { Reads (λ h. statistics h) image.now (numbers result) }
+fn take_numbers(image: Formed<'_>) -> Statistics
+    ensures { Reads (λ h. statistics h) image.entry.words.now (numbers result) }
 {
     let nursery = young_numbers(image);
     let elder = old_numbers(image);
@@ -149,7 +145,7 @@ pub fn report_formed(image: &mut [u64]) -> Result<Statistics, Question>
     requires { Image image.old (decode image.old) }
     ensures { reported image.old (report (decode image.old)) ≡ report_outcome result image.new }
 {
-    let s = take_numbers(image);
+    let s = take_numbers(Formed { words: image });
     let collections = s.nursery.collections;
     if MOST <= collections {
         return Err(Question::Bound);

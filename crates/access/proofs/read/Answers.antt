@@ -5,8 +5,8 @@ use Rattle.image.proofs.Opened.{formed-image, formed-opened, refused-opened}
 use Rattle.access.proofs.Answers.{loads-formed, loads-unformed}
 use Rattle.access.proofs.read.Goals as goal
 
-pub read_formed-requires : goal.read_formed-requires
-read_formed-requires c = formed-image _ c.check.ensures c.in_ok-check.was
+pub invariant_of-read_formed : goal.invariant_of-read_formed
+invariant_of-read_formed c = record { formed = formed-image _ c.check.ensures c.in_ok-check.was }
 
 pub returns : goal.returns
 returns c =

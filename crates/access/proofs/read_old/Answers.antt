@@ -11,9 +11,9 @@ use Rattle.access.proofs.read_old.Goals as goal
 use Rattle.access.proofs.read_old.Goals.{After-read_elder}
 
 -- the offset's word is the pointer's
-was_read : (c : After-read_elder) → ReadBy (read (decode c.args.image.now) (pointer 1 c.args.base (of_z w64 c.args.offset))) c.read_elder.result
+was_read : (c : After-read_elder) → ReadBy (read (decode c.args.image.words.now) (pointer 1 c.args.base (of_z w64 c.args.offset))) c.read_elder.result
 was_read c =
-    read_at (decode c.args.image.now) c.args.base (c.cast_unsigned-o.ensures ∙ ap (of_z w64) (to_z-of_z w64 c.args.offset c.ranges.offset)) c.read_elder.ensures
+    read_at (decode c.args.image.words.now) c.args.base (c.cast_unsigned-o.ensures ∙ ap (of_z w64) (to_z-of_z w64 c.args.offset c.ranges.offset)) c.read_elder.ensures
 
 pub returns-in_default : goal.returns-in_default
 returns-in_default c = old-none (was_read (goal.at.returns-in_default c).After-read_elder) c.in_default.is

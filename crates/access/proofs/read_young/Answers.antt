@@ -1,4 +1,3 @@
-use borrow.Author.Rules.{rules}
 use mathlib.Core.Path.{◌≡◌}
 use mir.Syntax.{w64}
 use mir.Val.{of_z}
@@ -12,15 +11,12 @@ use Rattle.access.proofs.Answers.{young-refused, young-loaded, young-inside}
 use Rattle.access.proofs.read_young.Goals as goal
 use Rattle.access.proofs.read_young.Goals.{After-index}
 
-found : (c : After-index) → place_answer c.index.result ≡ young_at (decode c.args.image.now) (pointer 0 c.args.base (of_z w64 c.args.offset))
+found : (c : After-index) → place_answer c.index.result ≡ young_at (decode c.args.image.words.now) (pointer 0 c.args.base (of_z w64 c.args.offset))
 found c =
-    rw (to_z-of_z w64 c.args.offset c.ranges.offset) at (c.index.ensures (decode c.args.image.now) (c.header_of-n.ensures.n.reads _ c.requires))
+    rw (to_z-of_z w64 c.args.offset c.ranges.offset) at (c.index.ensures (decode c.args.image.words.now) (c.header_of-n.ensures.n.reads _ c.args.image.formed))
 
 pub young_value-requires : goal.young_value-requires
-young_value-requires c = record {
-  image = search rules;
-  i_bound = young-inside _ _ _ (found (goal.at.young_value-requires c).After-index) c.in_ok-i.was;
-}
+young_value-requires c = young-inside _ _ _ (found (goal.at.young_value-requires c).After-index) c.in_ok-i.was
 
 pub returns : goal.returns
 returns c = young-loaded _ _ _ (found (goal.at.returns c).After-index) _ _ c.in_ok-i.was c.young_value.ensures

@@ -27,10 +27,7 @@ pub returns-then-not-roots_ok : goal.returns-then-not-roots_ok
 returns-then-not-roots_ok c = roots-refused _ _ _ c.args.amount (said-no c.roots_ok.ensures c.if-not-roots_ok.true)
 
 pub scratch_for-requires : goal.scratch_for-requires
-scratch_for-requires c = record {
-  image = c.requires;
-  roots_value = good (goal.at.scratch_for-requires c).Else-not-roots_ok;
-}
+scratch_for-requires c = good (goal.at.scratch_for-requires c).Else-not-roots_ok
 
 pub returns-then-scratch-scratch_for : goal.returns-then-scratch-scratch_for
 returns-then-scratch-scratch_for c =

@@ -4,10 +4,7 @@ use Rattle.collector.proofs.Changed.{lists-there, lists-inside, lists-long, list
 use Rattle.collector.proofs.change_heap.Goals as goal
 
 pub bases_at-bases-requires : goal.bases_at-bases-requires
-bases_at-bases-requires c = let l = lists-there c.args.image.now c.args.roots.now c.args.scratch.now c.requires.roots_in_bounds in record {
-  image = c.requires.image;
-  roots_bound = search rules;
-}
+bases_at-bases-requires c = let l = lists-there c.args.image.now c.args.roots.now c.args.scratch.now c.requires.roots_in_bounds in search rules
 
 pub slice_bounds-change_all-count : goal.slice_bounds-change_all-count
 slice_bounds-change_all-count c = (lists-inside c.args.image.now c.args.roots.now c.args.scratch.now _ c.requires.image c.requires.roots_in_bounds c.requires.moved_in_bounds refl c.bases_at-bases.ensures).0

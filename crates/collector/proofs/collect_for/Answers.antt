@@ -20,17 +20,17 @@ kept : (c : After-collect_and_change) → (length c.collect_and_change.new.image
 kept c = (search rules, search rules)
 
 pub save-used-requires : goal.save-used-requires
-save-used-requires c = record {
-  image = c.requires.image;
-  image_in_bounds = save-fits c.args.image.now c.args.roots.now c.args.scratch.now c.requires.image c.requires.roots_in_bounds;
-}
+save-used-requires c = save-fits c.args.image.now c.args.roots.now c.args.scratch.now c.requires.image c.requires.roots_in_bounds
 
 pub collect_and_change-requires : goal.collect_and_change-requires
 collect_and_change-requires c = ready-first _ c.args.image.now c.args.roots.now c.save-used.new.scratch c.requires.image c.requires.roots_value (room-saved (goal.at.collect_and_change-requires c).After-save-used) c.save-used.ensures c.requires.amount_nonzero
 
+pub invariant_of-change_roots : goal.invariant_of-change_roots
+invariant_of-change_roots c = let n = roots-asked _ c.args.image.now c.args.roots.now c.save-used.new.scratch c.requires.image c.requires.roots_value (room-saved (goal.at.invariant_of-change_roots c).After-save-used) c.save-used.ensures c.collect_and_change.ensures _ c.in-Ok.is (kept (goal.at.invariant_of-change_roots c).After-collect_and_change).1 in
+    record { formed = n.0 }
+
 pub change_roots-requires : goal.change_roots-requires
 change_roots-requires c = let n = roots-asked _ c.args.image.now c.args.roots.now c.save-used.new.scratch c.requires.image c.requires.roots_value (room-saved (goal.at.change_roots-requires c).After-save-used) c.save-used.ensures c.collect_and_change.ensures _ c.in-Ok.is (kept (goal.at.change_roots-requires c).After-collect_and_change).1 in record {
-  image = n.0;
   roots_value = n.1;
   roots_in_bounds = n.2;
   moved_in_bounds = n.3;

@@ -23,8 +23,8 @@ pub returns-then-is_empty : goal.returns-then-is_empty
 returns-then-is_empty c =
     load-heapless _ _ _ c.requires.held c.requires.register_bound.2 (none_there _ c.is_empty.ensures c.if-is_empty.true) (refl, refl)
 
-pub read_formed-requires : goal.read_formed-requires
-read_formed-requires c = c.requires.held.formed (there (goal.at.read_formed-requires c).After-target_of)
+pub invariant_of-read_formed : goal.invariant_of-read_formed
+invariant_of-read_formed c = record { formed = c.requires.held.formed (there (goal.at.invariant_of-read_formed c).After-target_of) }
 
 pub returns : goal.returns
 returns c =

@@ -80,11 +80,17 @@ collect_and_push_allocation-returns-in_err-g-2 t c =
     (rw c.in_err-g-2.was at (at_first c.requires.ready c.if-left-eq1.false c.if-collected.false _
     (pushing-refused b c.loop-i.invariant c.loop-i-test.true (rw c.survivor-base.ensures at c.alloc_or_collect-in-loop-i.ensures) (search rules) _ c.in_err-g-2.was)))
 
+pub collect_and_push_allocation-invariant_of-note : goal.collect_and_push_allocation-invariant_of-note
+collect_and_push_allocation-invariant_of-note t c =
+    let b = collected t (goal.at.collect_and_push_allocation-invariant_of-note t c).In_ok-c in
+    let n = note-asks b c.loop-i.invariant c.loop-i-test.true (rw c.survivor-base.ensures at c.alloc_or_collect-in-loop-i.ensures) (search rules) _ c.in_ok-g-2.was in
+    record { formed = n.0 }
+
 pub collect_and_push_allocation-note-tally-requires : goal.collect_and_push_allocation-note-tally-requires
 collect_and_push_allocation-note-tally-requires t c =
     let b = collected t (goal.at.collect_and_push_allocation-note-tally-requires t c).In_ok-c in
     let n = note-asks b c.loop-i.invariant c.loop-i-test.true (rw c.survivor-base.ensures at c.alloc_or_collect-in-loop-i.ensures) (search rules) _ c.in_ok-g-2.was in
-    record { image = n.0; roots_in_bounds = n.1; i_in_bounds = n.2; sweeps_bound = (n.3, n.4) }
+    record { roots_in_bounds = n.1; i_in_bounds = n.2; sweeps_bound = (n.3, n.4) }
 
 pub collect_and_push_allocation-loop-i-preserved : goal.collect_and_push_allocation-loop-i-preserved
 collect_and_push_allocation-loop-i-preserved t c =

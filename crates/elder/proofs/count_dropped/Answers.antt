@@ -9,7 +9,7 @@ pub layout_of-l-requires : goal.layout_of-l-requires
 layout_of-l-requires c = search (image-says-sized, rules)
 
 pub count_dropped-requires : goal.count_dropped-requires
-count_dropped-requires c = rw (c.slot_lengths.ensures, c.elder_cells.ensures) (parts-formed c.requires c.layout_of-l.ensures)
+count_dropped-requires c = rw (c.slot_lengths.ensures, c.elder_cells.ensures) (parts-formed c.args.image.formed c.layout_of-l.ensures)
 
 pub returns : goal.returns
 returns c =

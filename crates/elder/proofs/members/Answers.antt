@@ -8,7 +8,7 @@ layout_of-l-requires c = search (image-says-sized, rules)
 
 pub list_members-requires : goal.list_members-requires
 list_members-requires c =
-    let others = trace-room c.layout_of-l.ensures c.requires.image c.args.roots.now c.requires.image_in_bounds in record {
+    let others = trace-room c.layout_of-l.ensures c.args.image.formed c.args.roots.now c.requires in record {
       own_bound = search rules;
       within = rw (c.slot_lengths.ensures, c.elder_cells.ensures) others.0;
       lens_in_bounds = rw c.slot_lengths.ensures others.1;
@@ -16,4 +16,4 @@ list_members-requires c =
 
 pub returns : goal.returns
 returns c =
-    listed c.layout_of-l.ensures c.requires.image c.args.roots.now c.requires.image_in_bounds c.args.masks.now (search rules) (rw (c.slot_lengths.ensures, c.elder_cells.ensures) at c.list_members.ensures)
+    listed c.layout_of-l.ensures c.args.image.formed c.args.roots.now c.requires c.args.masks.now (search rules) (rw (c.slot_lengths.ensures, c.elder_cells.ensures) at c.list_members.ensures)

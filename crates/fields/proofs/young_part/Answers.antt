@@ -5,7 +5,7 @@ use Rattle.fields.proofs.young_part.Goals as goal
 
 pub young_cells-from-requires : goal.young_cells-from-requires
 young_cells-from-requires c =
-    let pre = c.requires in
+    let pre = c.args.image.formed in
     let n = c.header_of-h.ensures.n in
     let s = c.header_of-h.ensures.s in
     let z = sized-in pre in
@@ -15,7 +15,7 @@ young_cells-from-requires c =
 
 pub old_cells-end-requires : goal.old_cells-end-requires
 old_cells-end-requires c =
-    let pre = c.requires in
+    let pre = c.args.image.formed in
     let n = c.header_of-h.ensures.n in
     let s = c.header_of-h.ensures.s in
     let z = sized-in pre in
@@ -25,7 +25,7 @@ old_cells-end-requires c =
 
 pub returns : goal.returns
 returns c =
-    let pre = c.requires in
+    let pre = c.args.image.formed in
     let n = c.header_of-h.ensures.n in
     let s = c.header_of-h.ensures.s in
     part-found _ pre n s c.young_cells-from.ensures c.old_cells-end.ensures

@@ -4,8 +4,8 @@ use Rattle.nursery.proofs.Parts.{allocated-read}
 use Rattle.nursery.proofs.all_allocated.Goals as goal
 
 pub layout_of-l-requires : goal.layout_of-l-requires
-layout_of-l-requires c = image-says-sized c.requires.image
+layout_of-l-requires c = image-says-sized c.args.image.formed
 
 pub returns : goal.returns
 returns c =
-    allocated-read c.layout_of-l.ensures _ (rw (c.young_lengths.ensures, listed-cut c.args.count c.args.list.now c.requires.count_in_bounds) at c.all_allocated.ensures)
+    allocated-read c.layout_of-l.ensures _ (rw (c.young_lengths.ensures, listed-cut c.args.count c.args.list.now c.requires) at c.all_allocated.ensures)

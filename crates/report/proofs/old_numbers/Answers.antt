@@ -8,7 +8,7 @@ pub layout_of-l-requires : goal.layout_of-l-requires
 layout_of-l-requires c = search (image-says-sized, rules)
 
 pub in_use-cells-requires : goal.in_use-cells-requires
-in_use-cells-requires c = used-fits c.layout_of-l.ensures c.requires
+in_use-cells-requires c = used-fits c.layout_of-l.ensures c.args.image.formed
 
 pub returns : goal.returns
 unfolding bar_of

@@ -4,10 +4,10 @@ use Rattle.report.proofs.Taking.{young-held}
 use Rattle.report.proofs.young_allocations.Goals as goal
 
 pub slot_lengths-end-requires : goal.slot_lengths-end-requires
-slot_lengths-end-requires c = omega (arith, n-read c.requires c.header_of.ensures.n, (sized-in c.requires).bounds.n)
+slot_lengths-end-requires c = omega (arith, n-read c.args.image.formed c.header_of.ensures.n, (sized-in c.args.image.formed).bounds.n)
 
 pub slice_bounds-held-end : goal.slice_bounds-held-end
-slice_bounds-held-end c = omega (arith, n-read c.requires c.header_of.ensures.n, (sized-in c.requires).long)
+slice_bounds-held-end c = omega (arith, n-read c.args.image.formed c.header_of.ensures.n, (sized-in c.args.image.formed).long)
 
 pub returns : goal.returns
 returns c = young-held c.header_of.ensures.n c.slot_lengths-end.ensures c.held.ensures

@@ -4,7 +4,7 @@ use Rattle.report.proofs.Taking.{cursor-within, young-taken}
 use Rattle.report.proofs.young_numbers.Goals as goal
 
 pub overflow_sub-free : goal.overflow_sub-free
-overflow_sub-free c = cursor-within c.header_of-h.ensures.n c.header_of-h.ensures.cursor c.requires
+overflow_sub-free c = cursor-within c.header_of-h.ensures.n c.header_of-h.ensures.cursor c.args.image.formed
 
 pub returns : goal.returns
 unfolding bar_of
