@@ -11,6 +11,7 @@ ghost use Rattle.slots.specs.Slots.{Packed, slots_of};
 
 use barrier::{WriteBarrier, cells};
 use question::Question;
+use trace::Member;
 
 // Whether the slot at base b has cells to count out: one crosses, and (1, b, 0) is no member.
 fn is_counted(slot: &[u64], b: usize, members: &[u64]) -> bool
@@ -18,7 +19,12 @@ fn is_counted(slot: &[u64], b: usize, members: &[u64]) -> bool
     ensures { result ≡ (any_crossing 1 slot.now && not (keeps (listed members.now) b)) }
 {
     if cells::any_crosses(slot, 1) {
-        return !trace::find(members, 1, b as u64, 0);
+        let m = Member {
+            base: b as u64,
+            offset: 0,
+            heap: 1,
+        };
+        return !trace::find(members, m);
     }
     false
 }

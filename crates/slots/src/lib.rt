@@ -15,6 +15,7 @@ ghost use Rattle.trace.specs.Words.{listed};
 ghost use Rattle.words.specs.Source.{cells_from, count_of, whole_source};
 ghost use Rattle.slots.specs.Slots.{Packed, slots_of, slots_at, Elder, Changed, read_old, ReadBy, written, stepped, stepped_to, move_of};
 
+use trace::Member;
 use value::Words;
 use words::Source;
 
@@ -190,7 +191,12 @@ fn pack_one(w: &mut [u64], at: usize, b: usize, ends: Ends, members: &[u64]) -> 
     if n == 0 {
         return ends;
     }
-    if trace::find(members, 1, b as u64, 0) {
+    let m = Member {
+        base: b as u64,
+        offset: 0,
+        heap: 1,
+    };
+    if trace::find(members, m) {
         words::move_words(&mut w[at..], dst, src, n);
         return Ends {
             src: src + n,

@@ -7,11 +7,7 @@ use Rattle.model.specs.Records.{Ptr}
 use Rattle.trace.specs.Words.{tab, pointer, ptr_at, members, listed}
 use Rattle.trace.proofs.Entries.{tab-ext}
 
--- the entry of a chunk
-abbrev pub entry_of : List ℕ → Ptr
-entry_of e = pointer (get_or e 0 0) (get_or e 1 0) (get_or e 2 0)
-
-first-entry : (w : List ℕ) → entry_of (take 3 w) ≡ ptr_at w 0
+first-entry : (w : List ℕ) → ptr_at (take 3 w) 0 ≡ ptr_at w 0
 unfolding ptr_at
 first-entry w = rw (get_or-take 3 w 0 0 (omega arith), get_or-take 3 w 1 0 (omega arith), get_or-take 3 w 2 0 (omega arith))
 
@@ -28,11 +24,11 @@ unfolding tab
 tab-later f i zero = refl
 tab-later f i (suc n) = ap (λ l. f (suc i) ∷ l) (tab-later f (suc i) n)
 
-pub entries-are : (n : ℕ) (w : List ℕ) → map entry_of (first_chunks 3 n w) ≡ members n w
+pub entries-are : (n : ℕ) (w : List ℕ) → map (λ e. ptr_at e 0) (first_chunks 3 n w) ≡ members n w
 unfolding members tab
 entries-are zero w = refl
 entries-are (suc n) w =
-    let rest : map entry_of (first_chunks 3 n (drop 3 w)) ≡ tab (ptr_at w) 1 n =
+    let rest : map (λ e. ptr_at e 0) (first_chunks 3 n (drop 3 w)) ≡ tab (ptr_at w) 1 n =
     entries-are n (drop 3 w) ∙ tab-ext (ptr_at (drop 3 w)) (λ k. ptr_at w (suc k)) 0 n (λ k b. later-entry w k) ∙ tab-later (ptr_at w) 0 n in
     λ j. first-entry w j ∷ rest j
 
@@ -50,4 +46,4 @@ front n w h =
     rw l (let e : 3 * n ≡ 3 * n + 0 = omega arith in rw e (chunks-cut n 0 w))
 
 pub listed-cut : (n : ℕ) (w : List ℕ) → 3 * n ≤ length w → listed (take (3 * n) w) ≡ members n w
-listed-cut n w h = sym (entries-are (length (take (3 * n) w) / 3) (take (3 * n) w)) ∙ ap (map entry_of) (front n w h) ∙ entries-are n w
+listed-cut n w h = sym (entries-are (length (take (3 * n) w) / 3) (take (3 * n) w)) ∙ ap (map (λ e. ptr_at e 0)) (front n w h) ∙ entries-are n w

@@ -1,6 +1,7 @@
 -- The members of a collection in words, three to an entry: heap, base, offset.
 use Rattle.std.specs.Prelude.{List, [], ◌∷◌, ℕ, zero, suc, ◌+◌, ◌*◌, ◌/◌, ◌≤◌, length, get_or, set}
 use Rattle.model.specs.Records.{Ptr}
+use Rattle.trace.specs.declared.Member.{Member}
 
 -- f i, f (i + 1), .., n of them
 unfoldable pub tab : {A : Type 0} → (ℕ → A) → ℕ → ℕ → List A
@@ -9,6 +10,9 @@ tab f i (suc n) = f i ∷ tab f (suc i) n
 
 abbrev pub pointer : ℕ → ℕ → ℕ → Ptr
 pointer h b o = record { heap = h; base = b; off = o }
+
+abbrev pub ptr_of : Member → Ptr
+ptr_of m = pointer m.heap m.base m.offset
 
 -- entry i
 unfoldable pub ptr_at : List ℕ → ℕ → Ptr

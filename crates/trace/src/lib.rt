@@ -11,41 +11,74 @@ ghost use Rattle.model.specs.Image.{cut};
 ghost use Rattle.model.specs.Nursery.{matched, young_members};
 ghost use Rattle.model.specs.Elder.{old_members};
 ghost use Rattle.model.specs.Calls.{cells_in};
-ghost use Rattle.trace.specs.Words.{tab, pointer, ptr_at, members, listed, stored, Room};
+ghost use Rattle.trace.specs.Words.{tab, ptr_of, ptr_at, members, listed, stored, Room};
 ghost use Rattle.trace.specs.Places.{root_at, own_at, base_at};
 ghost use Rattle.trace.specs.Leads.{begins_at, leads_to, Inside};
 ghost use Rattle.trace.specs.Traces.{Within, most_members, Traced};
 
-// Is (heap, base, offset) among the members, three words each? They differ in their bases mostly, so these come first.
-pub fn find(members: &[u64], heap: u64, base: u64, offset: u64) -> bool
-    ensures { result ≡ mem same_ptr (pointer heap base offset) (listed members.now) }
+// A pointer as the list has it. Members differ in their bases mostly, and a comparison goes by the order of the fields: the base is first.
+#[derive(Clone, Copy, PartialEq, Eq)]
+pub struct Member {
+    pub base: u64,
+    pub offset: u64,
+    pub heap: u64,
+}
+
+// An entry's three words.
+impl From<[u64; 3]> for Member {
+    ghost from_gives = { λ e m. ptr_of m ≡ ptr_at e 0 };
+
+    #[tactic(auto, unfolding(crate::specs::Words::ptr_at))]
+    fn from(entry: [u64; 3]) -> Member {
+        let [heap, base, offset] = entry;
+        Member { base, offset, heap }
+    }
+}
+
+impl Member {
+    // Entry i.
+    #[tactic(auto, unfolding(crate::specs::Words::ptr_at))]
+    pub fn at(list: &[u64], i: usize) -> Member
+        requires { 3 * i + 2 < length list.now }
+        ensures { ptr_of result ≡ ptr_at list.now i }
+    {
+        let at = 3 * i;
+        Member {
+            base: list[at + 1],
+            offset: list[at + 2],
+            heap: list[at],
+        }
+    }
+
+    // Stores it as entry n.
+    pub fn store(self, list: &mut [u64], n: usize)
+        requires { 3 * n + 2 < length list.old }
+        ensures { list.new ≡ stored list.old n (ptr_of self) }
+    {
+        let at = 3 * n;
+        list[at] = self.heap;
+        list[at + 1] = self.base;
+        list[at + 2] = self.offset;
+    }
+}
+
+// Is it among the members, three words each?
+pub fn find(members: &[u64], m: Member) -> bool
+    ensures { result ≡ mem same_ptr (ptr_of m) (listed members.now) }
 {
     let (entries, _) = members.as_chunks::<3>();
-    entries
-        .iter()
-        .any(|e| base == e[1] && offset == e[2] && heap == e[0])
+    entries.iter().any(|e| m == Member::from(*e))
 }
 
-// Stores (heap, base, offset) as entry n.
-pub fn store(list: &mut [u64], n: usize, heap: u64, base: u64, offset: u64)
-    requires { 3 * n + 2 < length list.old }
-    ensures { list.new ≡ stored list.old n (pointer heap base offset) }
+// Enters it at the end unless it is there; the new count.
+fn enter_one(list: &mut [u64], count: usize, m: Member) -> usize
+    requires { Room list.old (add same_ptr (members count list.old) (ptr_of m)) }
+    ensures { members result list.new ≡ add same_ptr (members count list.old) (ptr_of m) }
 {
-    let at = 3 * n;
-    list[at] = heap;
-    list[at + 1] = base;
-    list[at + 2] = offset;
-}
-
-// Enters (heap, base, offset) at the end unless it is there; the new count.
-fn enter_one(list: &mut [u64], count: usize, heap: u64, base: u64, offset: u64) -> usize
-    requires { Room list.old (add same_ptr (members count list.old) (pointer heap base offset)) }
-    ensures { members result list.new ≡ add same_ptr (members count list.old) (pointer heap base offset) }
-{
-    if find(&list[..3 * count], heap, base, offset) {
+    if find(&list[..3 * count], m) {
         return count;
     }
-    store(list, count, heap, base, offset);
+    m.store(list, count);
     count + 1
 }
 
@@ -67,13 +100,12 @@ fn enter_root(roots: &[u64], k: usize, list: &mut [u64], count: usize) -> usize
     if tag % value::HEAP_STEP != value::POINTER {
         return count;
     }
-    enter_one(
-        list,
-        count,
-        tag / value::HEAP_STEP,
-        roots[at + 1],
-        roots[at + 2],
-    )
+    let m = Member {
+        base: roots[at + 1],
+        offset: roots[at + 2],
+        heap: tag / value::HEAP_STEP,
+    };
+    enter_one(list, count, m)
 }
 
 // Enters each root pointer in an empty list.
@@ -107,7 +139,12 @@ fn enter_base(
     }
     let base = b as u64;
     if matches(masks, base) {
-        return enter_one(list, count, own, base, 0);
+        let m = Member {
+            base,
+            offset: 0,
+            heap: own,
+        };
+        return enter_one(list, count, m);
     }
     count
 }
@@ -144,7 +181,12 @@ fn enter_own(cells: &[u64], k: usize, own: u64, list: &mut [u64], count: usize) 
     if cells[at] != value::HEAP_STEP * own + value::POINTER {
         return count;
     }
-    enter_one(list, count, own, cells[at + 1], cells[at + 2])
+    let m = Member {
+        base: cells[at + 1],
+        offset: cells[at + 2],
+        heap: own,
+    };
+    enter_one(list, count, m)
 }
 
 // Enters each pointer to the heap own of the len cells from the from-th.
