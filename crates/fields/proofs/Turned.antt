@@ -27,8 +27,9 @@ use Rattle.theorems.proofs.Parts.{header, parts_of, encode-parts}
 use Rattle.theorems.proofs.Collect.{bump-fit}
 use Rattle.words.specs.Words.{padded}
 use Rattle.value.specs.declared.Words.{Words}
+use Rattle.value.specs.Value.{words_at}
 use Rattle.image.specs.Places.{size_n, young_counts_at, old_counts_at, lengths_at, slot_lengths_at, young_cells_at, old_cells_at}
-use Rattle.fields.specs.Fields.{Reads, Turns, on_young, on_old, with_bar, with_old_bar, bar_of, on_bar, is_present, with_cell, restarted, collected_once, cell_in, words_of, YoungCells, CellAt}
+use Rattle.fields.specs.Fields.{Reads, Turns, on_young, on_old, with_bar, with_old_bar, bar_of, on_bar, is_present, with_cell, restarted, collected_once, cell_in, words_of, YoungCells}
 use Rattle.fields.specs.declared.Part.{Part}
 use Rattle.fields.proofs.Parts.{decoded, sized-in, n-is, n-read, s_read, young-counts-put, old-counts-put, lengths-put, young-cells-put, lengths, young-cells}
 
@@ -116,9 +117,9 @@ module _ {w : List ℕ} (p : Part) (y : YoungCells w p) (i : ℕ) (small : i < (
   pub cell_room : Image w (decode w) → i * 3 + 3 ≤ length (take (p.end - p.from) (drop p.from w))
   cell_room g = rw (young-cells g p y) (omega (arith, words-length (decode w).young.cells, below g))
 
-  pub cell-read : (r : Words) → CellAt (take (p.end - p.from) (drop p.from w)) i r → Reads (λ h. cell_words (get_or h.young.cells i blank ∷ [])) w (words_of r)
+  pub cell-read : (r : Words) → r ≡ words_at (take (p.end - p.from) (drop p.from w)) (3 * i) → Reads (λ h. cell_words (get_or h.young.cells i blank ∷ [])) w (words_of r)
   cell-read r a = record {
-    reads = λ h g. sym (cell-words-at h.young.cells i (below g)) ∙ rw (a.tag, a.payload, a.offset, young-cells g p y);
+    reads = λ h g. sym (cell-words-at h.young.cells i (below g)) ∙ rw (a, young-cells g p y);
   }
 
   pub cell-put : (cell : List ℕ) {ys : List ℕ} → length cell ≡ 3 → whole_cells cell ≡ true → ys ≡ paste (take (p.end - p.from) (drop p.from w)) (3 * i) cell (length cell)

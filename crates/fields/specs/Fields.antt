@@ -1,5 +1,5 @@
 -- What is read from an image, and what becomes of it, whatever heap the words are the image of.
-use Rattle.std.specs.Prelude.{◌≡◌, Bool, true, false, List, [], ◌∷◌, ℕ, zero, suc, ◌+◌, ◌*◌, ◌≤◌, length, get_or, set, replicate}
+use Rattle.std.specs.Prelude.{◌≡◌, Bool, true, false, List, [], ◌∷◌, ℕ, zero, suc, ◌≤◌, length, get_or, set, replicate}
 use Rattle.model.specs.Records.{Cell, cell_of}
 use Rattle.model.specs.Barrier.{Barrier, absent, present, counts}
 use Rattle.model.specs.Heap.{Nursery, Elder, Heap}
@@ -81,9 +81,3 @@ pub record YoungCells (w : List ℕ) (p : Part) : Type 0 where
   pub from : p.from ≡ young_cells_at (size_n w) (size_s w)
   pub end : p.end ≡ old_cells_at (size_n w) (size_s w)
   pub inside : p.end ≤ length w
-
--- the words of the i-th cell
-pub record CellAt (w : List ℕ) (i : ℕ) (r : Words) : Type 0 where
-  pub tag : r.tag ≡ get_or w (3 * i) 0
-  pub payload : r.payload ≡ get_or w (3 * i + 1) 0
-  pub offset : r.offset ≡ get_or w (3 * i + 2) 0

@@ -9,7 +9,7 @@ ghost use Rattle.model.specs.Image.{decode};
 ghost use Rattle.model.specs.Nursery.{bump, emptied};
 ghost use Rattle.theorems.specs.Fit.{FitBarrier, Image};
 ghost use Rattle.barrier.specs.Counts.{barrier_of};
-ghost use Rattle.fields.specs.Fields.{Reads, Turns, on_young, on_old, with_bar, bar_of, on_bar, is_present, with_count, flag_at, counts_at, with_cell, restarted, collected_once, cell_in, words_of, YoungCells, CellAt};
+ghost use Rattle.fields.specs.Fields.{Reads, Turns, on_young, on_old, with_bar, bar_of, on_bar, is_present, with_count, flag_at, counts_at, with_cell, restarted, collected_once, cell_in, words_of, YoungCells};
 
 use barrier::WriteBarrier;
 use image::formed::Formed;
@@ -51,24 +51,28 @@ pub fn header_of(image: Formed<'_>) -> Header
     }
 }
 
-// Where a barrier's flag and its counts stand: the nursery's for 0, else the elder's.
-fn flag_place(own: u8) -> usize
-    ensures { (result ≡ flag_at own) × (result < 10) }
-{
-    if own == 0 {
-        layout::YOUNG_PRESENT
-    } else {
-        layout::OLD_PRESENT
-    }
+// Where a barrier's flag and its counts stand.
+#[derive(Clone, Copy)]
+struct Places {
+    flag: usize,
+    counts: usize,
 }
 
-fn counts_place(own: u8) -> usize
-    ensures { (result ≡ counts_at own) × (result + 256 ≤ 522) }
+// The nursery's for 0, else the elder's. A heap's number is any u8: a narrower type would ask more of callers.
+fn places_of(own: u8) -> Places
+    ensures flag { (result.flag ≡ flag_at own) × (result.flag < 10) }
+    ensures counts { (result.counts ≡ counts_at own) × (result.counts + 256 ≤ 522) }
 {
     if own == 0 {
-        layout::YOUNG_COUNTS
+        Places {
+            flag: layout::YOUNG_PRESENT,
+            counts: layout::YOUNG_COUNTS,
+        }
     } else {
-        layout::OLD_COUNTS
+        Places {
+            flag: layout::OLD_PRESENT,
+            counts: layout::OLD_COUNTS,
+        }
     }
 }
 
@@ -76,9 +80,10 @@ fn counts_place(own: u8) -> usize
 pub fn barrier_of(image: Formed<'_>, own: u8) -> WriteBarrier
     ensures { Reads (λ h. bar_of own h) image.entry.words.now (barrier_of result) }
 {
-    let at = counts_place(own);
+    let p = places_of(own);
+    let at = p.counts;
     let end = at + WriteBarrier::SIZE;
-    barrier::words::load(image.words[flag_place(own)], &image.words[at..end])
+    barrier::words::load(image.words[p.flag], &image.words[at..end])
 }
 
 pub fn put_barrier(image: &mut [u64], own: u8, b: WriteBarrier)
@@ -86,16 +91,17 @@ pub fn put_barrier(image: &mut [u64], own: u8, b: WriteBarrier)
     requires fit_barrier { FitBarrier (barrier_of b) }
     ensures { Turns (λ h. on_bar own (barrier_of b) h) image.old image.new }
 {
-    let at = counts_place(own);
+    let p = places_of(own);
+    let at = p.counts;
     let end = at + WriteBarrier::SIZE;
     barrier::words::store(b, &mut image[at..end]);
-    image[flag_place(own)] = barrier::words::flag_word(b);
+    image[p.flag] = barrier::words::flag_word(b);
 }
 
 pub fn is_present(image: Formed<'_>, own: u8) -> bool
     ensures { Reads (λ h. is_present (bar_of own h)) image.entry.words.now result }
 {
-    image.words[flag_place(own)] == 1
+    image.words[places_of(own).flag] == 1
 }
 
 // An absent barrier's count words are zero, so that the others are right when it becomes present.
@@ -104,8 +110,9 @@ pub fn put_count(image: &mut [u64], own: u8, k: usize, n: u64)
     requires k_bound { (k < 256) × (n ≤ most) }
     ensures { Turns (λ h. on_bar own (with_count k n (bar_of own h)) h) image.old image.new }
 {
-    image[counts_place(own) + k] = n;
-    image[flag_place(own)] = 1;
+    let p = places_of(own);
+    image[p.counts + k] = n;
+    image[p.flag] = 1;
 }
 
 // Where the nursery's cells stand.
@@ -126,18 +133,6 @@ fn young_part(image: Formed<'_>) -> Part
     Part { from, end }
 }
 
-// The i-th of these cells.
-fn cell_at(cells: &[u64], i: usize) -> Words
-    requires { i * 3 + 3 ≤ length cells.now }
-    ensures { CellAt cells.now i result }
-{
-    Words {
-        tag: cells[3 * i],
-        payload: cells[3 * i + 1],
-        offset: cells[3 * i + 2],
-    }
-}
-
 pub fn young_cell(image: Formed<'_>, i: usize) -> Words
     requires { i < (decode image.words.now).size.n }
     ensures { Reads (λ h. cell_words (get_or h.young.cells i blank ∷ [])) image.entry.words.now (words_of result) }
@@ -145,7 +140,7 @@ pub fn young_cell(image: Formed<'_>, i: usize) -> Words
     let p = young_part(image);
     let from = p.from;
     let end = p.end;
-    cell_at(&image.words[from..end], i)
+    Words::at(&image.words[from..end], i)
 }
 
 pub fn put_young_cell(image: &mut [u64], i: usize, cell: &[u64])

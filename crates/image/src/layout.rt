@@ -1,5 +1,5 @@
 // Where the parts of an image stand. Code has these offsets from here alone. What follows from them, and moves with them: the parts of
-// scratch (cycle, scratch.rt), the lengths of the program's buffers (heap, main.rt), bounds in fields (flag_place, count_place).
+// scratch (cycle, scratch.rt), the lengths of the program's buffers (heap, main.rt), bounds in fields (places_of).
 ghost use Rattle.std.specs.Prelude.{◌≡◌, ◌+◌, ◌*◌, ◌≤◌};
 ghost use Rattle.image.specs.Places.{slot_lengths_at, young_cells_at, old_cells_at, image_end};
 

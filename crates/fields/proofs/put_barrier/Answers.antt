@@ -8,7 +8,7 @@ pub slice_bounds-store-end : goal.slice_bounds-store-end
 slice_bounds-store-end c = omega (arith, (sized-in c.requires.image).long)
 
 pub store-requires : goal.store-requires
-store-requires c = (bar-loads _ c.counts_place-at.ensures.0 refl refl c.requires.image).1
+store-requires c = (bar-loads _ c.places_of-p.ensures.counts.0 refl refl c.requires.image).1
 
 pub returns : goal.returns
-returns c = bar-put _ c.counts_place-at.ensures.0 refl c.flag_place.ensures.0 c.requires.fit_barrier c.store.ensures c.flag_word.ensures
+returns c = bar-put _ c.places_of-p.ensures.counts.0 refl c.places_of-p.ensures.flag.0 c.requires.fit_barrier c.store.ensures c.flag_word.ensures

@@ -1,8 +1,8 @@
 use Rattle.fields.proofs.Turned.{cell_room, cell-read}
 use Rattle.fields.proofs.young_cell.Goals as goal
 
-pub cell_at-requires : goal.cell_at-requires
-cell_at-requires c = cell_room _ c.young_part-p.ensures _ c.requires c.args.image.formed
+pub at-requires : goal.at-requires
+at-requires c = cell_room _ c.young_part-p.ensures _ c.requires c.args.image.formed
 
 pub returns : goal.returns
-returns c = cell-read _ c.young_part-p.ensures _ c.requires _ c.cell_at.ensures
+returns c = cell-read _ c.young_part-p.ensures _ c.requires _ c.at.ensures
