@@ -2,10 +2,10 @@
 use mathlib.Core.Path.{◌≡◌, sym, ap, ◌∙◌}
 use mathlib.Core.Bool.{Bool, true, false}
 use mathlib.Core.List.{List}
-use Prim.Native.Nat.{ℕ, ◌+◌, ◌-◌, ◌≤◌, ◌<◌}
+use Prim.Native.Nat.{ℕ, ◌+◌, ◌-◌, ◌*◌, ◌≤◌, ◌<◌}
 use native.Mathlib.Omega.{arith}
 use lib.Dec.{ltb}
-use lib.ListN.{length}
+use lib.ListN.{length, take}
 use borrow.Author.Tests.{lt-ltb, le-ltb, le-leb, lt-leb}
 use Rattle.model.specs.Records.{Ptr, Cell}
 use Rattle.model.specs.Barrier.{most}
@@ -13,7 +13,8 @@ use Rattle.model.specs.Heap.{Heap}
 use Rattle.model.specs.Nursery.{young_members, survivors, all_allocated, emptied, collect_young}
 use Rattle.theorems.specs.Fit.{Image}
 use Rattle.theorems.specs.Does.{Does}
-use Rattle.trace.specs.Words.{members}
+use Rattle.trace.specs.Words.{members, listed}
+use Rattle.trace.proofs.Chunks.{listed-cut}
 use Rattle.trace.proofs.Entries.{length-members}
 use Rattle.fields.specs.Fields.{Reads, Turns, on_young}
 use Rattle.fields.proofs.Parts.{most-is}
@@ -38,7 +39,10 @@ module _ (roots : List Cell) (ms : List ℕ) {w : List ℕ} {collections : ℕ} 
       visits-are : visits ≡ length (young_members h.young roots ms)
       visits-are = sym (length-members visits list) ∙ ap length (entered.are h i)
 
-    module _ {all : Bool} (asked : Reads (λ h. all_allocated h.young (members kept sorted)) w all) where
+    module _ (room : 3 * kept ≤ length sorted) {all : Bool} (lent : Reads (λ h. all_allocated h.young (listed (take (3 * kept) sorted))) w all) where
+      asked : Reads (λ h. all_allocated h.young (members kept sorted)) w all
+      asked = rw (listed-cut kept sorted room) at lent
+
       -- a survivor has no allocation
       pub collect-lost : all ≡ false → {v : List ℕ} → Does (collect_step roots ms) w (collected_answer (Err Allocation) sorted) v
       unfolding collect_step collect_young

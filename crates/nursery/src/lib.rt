@@ -7,7 +7,7 @@ ghost use Rattle.model.specs.Nursery.{all_allocated};
 ghost use Rattle.model.specs.Calls.{cells_in};
 ghost use Rattle.theorems.specs.Fit.{Image};
 ghost use Rattle.theorems.specs.Does.{Does};
-ghost use Rattle.trace.specs.Words.{members};
+ghost use Rattle.trace.specs.Words.{listed};
 ghost use Rattle.fields.specs.Fields.{Reads};
 ghost use Rattle.nursery.specs.Steps.{Listed, collected_answer, collect_step};
 
@@ -47,13 +47,12 @@ fn members(image: Formed<'_>, roots: &[u64], masks: &[u64], list: &mut [u64]) ->
     )
 }
 
-// Question 6 of the first count entries.
-fn all_allocated(image: Formed<'_>, list: &[u64], count: usize) -> bool
-    requires { 3 * count ≤ length list.now }
-    ensures { Reads (λ h. all_allocated h.young (members count list.now)) image.entry.words.now result }
+// Question 6 of these members.
+fn all_allocated(image: Formed<'_>, members: &[u64]) -> bool
+    ensures { Reads (λ h. all_allocated h.young (listed members.now)) image.entry.words.now result }
 {
     let l = places::layout_of(image.words);
-    survivors::all_allocated(l.young_lengths(image.words), &list[..3 * count])
+    survivors::all_allocated(l.young_lengths(image.words), members)
 }
 
 // A collection. The survivors stand in the lent words, sorted.
@@ -73,7 +72,7 @@ pub fn collect(
     }
     let entered = members(Formed { words: image }, roots, masks, list);
     let survivors = survivors::survivors(list, entered);
-    if !all_allocated(Formed { words: image }, list, survivors) {
+    if !all_allocated(Formed { words: image }, &list[..3 * survivors]) {
         return Err(Question::Allocation);
     }
     let visits = entered as u64;

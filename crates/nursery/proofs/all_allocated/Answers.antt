@@ -1,5 +1,4 @@
 use Rattle.layout.proofs.Tail.{image-says-sized}
-use Rattle.trace.proofs.Chunks.{listed-cut}
 use Rattle.nursery.proofs.Parts.{allocated-read}
 use Rattle.nursery.proofs.all_allocated.Goals as goal
 
@@ -8,4 +7,4 @@ layout_of-l-requires c = image-says-sized c.args.image.formed
 
 pub returns : goal.returns
 returns c =
-    allocated-read c.layout_of-l.ensures _ (rw (c.young_lengths.ensures, listed-cut c.args.count c.args.list.now c.requires) at c.all_allocated.ensures)
+    allocated-read c.layout_of-l.ensures _ (rw c.young_lengths.ensures at c.all_allocated.ensures)
