@@ -23,6 +23,7 @@ use image::counts::MOST;
 use image::formed::Formed;
 use layout::places;
 use question::Question;
+use trace::Region;
 use words::Source;
 
 // Does it hold T allocations or more?
@@ -42,14 +43,12 @@ fn members(image: Formed<'_>, roots: &[u64], masks: &[u64], list: &mut [u64]) ->
     ensures { Listed (cells_in roots.now) masks.now image.entry.words.now result list.new }
 {
     let l = places::layout_of(image.words);
-    trace::list_members(
-        1,
-        roots,
-        l.slot_lengths(image.words),
-        l.elder_cells(image.words),
-        masks,
-        list,
-    )
+    let elder = Region {
+        own: 1,
+        lens: l.slot_lengths(image.words),
+        cells: l.elder_cells(image.words),
+    };
+    elder.list_members(roots, masks, list)
 }
 
 // The cells of what is no member counted out.

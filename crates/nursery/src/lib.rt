@@ -15,6 +15,7 @@ use image::counts::MOST;
 use image::formed::Formed;
 use layout::places;
 use question::Question;
+use trace::Region;
 
 // How many members a collection visited, and how many of them survive.
 #[derive(Clone, Copy)]
@@ -37,14 +38,12 @@ fn members(image: Formed<'_>, roots: &[u64], masks: &[u64], list: &mut [u64]) ->
     ensures { Listed (cells_in roots.now) masks.now image.entry.words.now result list.new }
 {
     let l = places::layout_of(image.words);
-    trace::list_members(
-        0,
-        roots,
-        l.young_lengths(image.words),
-        l.young_cells(image.words),
-        masks,
-        list,
-    )
+    let nursery = Region {
+        own: 0,
+        lens: l.young_lengths(image.words),
+        cells: l.young_cells(image.words),
+    };
+    nursery.list_members(roots, masks, list)
 }
 
 // Question 6 of these members.

@@ -1,4 +1,6 @@
 -- A trace of either heap, 0 the nursery and 1 the elder: what it asks of the words that it is lent, and what it lists.
+use native.Mathlib.Nat.{ℕ_set}
+use Rattle.std.specs.Coded.{×_prop, Π_prop, →_prop, le_prop}
 use Rattle.std.specs.Prelude.{◌≡◌, List, ℕ, zero, suc, ◌+◌, ◌*◌, ◌<◌, ◌≤◌, length, get_or}
 use Rattle.model.specs.Lists.{sum}
 use Rattle.model.specs.Records.{Ptr, Cell, cells_of}
@@ -12,6 +14,10 @@ use Rattle.model.specs.Calls.{cells_in}
 abbrev pub Within : ℕ → List ℕ → List ℕ → Type 0
 Within zero lens cells = (length cells ≡ 3 * length lens) × ((b : ℕ) → 0 < get_or lens b 0 → b + get_or lens b 0 ≤ length lens)
 Within (suc own) lens cells = sum lens * 3 ≤ length cells
+
+pub Within-prop : (own : ℕ) (lens cells : List ℕ) → IsProp (Within own lens cells)
+Within-prop zero lens cells = ×_prop (ℕ_set _ _) (Π_prop (λ b. →_prop le_prop))
+Within-prop (suc own) lens cells = le_prop
 
 -- how many members may come from masks and cells
 abbrev pub most_members : ℕ → List ℕ → ℕ

@@ -14,7 +14,7 @@ ghost use Rattle.model.specs.Calls.{cells_in};
 ghost use Rattle.trace.specs.Words.{tab, ptr_of, ptr_at, members, listed, stored, Room};
 ghost use Rattle.trace.specs.Places.{root_at, own_at, base_at};
 ghost use Rattle.trace.specs.Leads.{begins_at, leads_to, Inside};
-ghost use Rattle.trace.specs.Traces.{Within, most_members, Traced};
+ghost use Rattle.trace.specs.Traces.{Within, Within-prop, most_members, Traced};
 
 // A pointer as the list has it. Members differ in their bases mostly, and a comparison goes by the order of the fields: the base is first.
 #[derive(Clone, Copy, PartialEq, Eq)]
@@ -121,152 +121,142 @@ fn enter_roots(roots: &[u64], list: &mut [u64]) -> usize
     n
 }
 
-// Enters (own, b, 0), if there is an allocation at b and a mask matches.
-fn enter_base(
-    lens: &[u64],
-    b: usize,
-    own: u64,
-    masks: &[u64],
-    list: &mut [u64],
-    count: usize,
-) -> usize
-    requires b_in_bounds { b < length lens.now }
-    requires room { Room list.old (enter same_ptr (members count list.old) (base_at own masks.now lens.now b)) }
-    ensures { members result list.new ≡ enter same_ptr (members count list.old) (base_at own masks.now lens.now b) }
-{
-    if lens[b] == 0 {
-        return count;
+// The generation that is traced: its heap's number, 0 the nursery and 1 the elder, its lengths and its cells.
+#[derive(Clone, Copy)]
+pub struct Region<'a> {
+    pub own: u64,
+    pub lens: &'a [u64],
+    pub cells: &'a [u64],
+    ghost two: { own < 2 },
+    ghost within: { Within own lens.now cells.now } by { Within-prop own lens.now cells.now },
+}
+
+impl Region<'_> {
+    // Enters (own, b, 0), if there is an allocation at b and a mask matches.
+    fn enter_base(self, b: usize, masks: &[u64], list: &mut [u64], count: usize) -> usize
+        requires b_in_bounds { b < length self.lens.now }
+        requires room { Room list.old (enter same_ptr (members count list.old) (base_at self.own masks.now self.lens.now b)) }
+        ensures { members result list.new ≡ enter same_ptr (members count list.old) (base_at self.entry.own masks.now self.entry.lens.now b) }
+    {
+        if self.lens[b] == 0 {
+            return count;
+        }
+        let base = b as u64;
+        if matches(masks, base) {
+            let m = Member {
+                base,
+                offset: 0,
+                heap: self.own,
+            };
+            return enter_one(list, count, m);
+        }
+        count
     }
-    let base = b as u64;
-    if matches(masks, base) {
+
+    // Enters each allocation that a mask matches.
+    fn enter_matched(self, masks: &[u64], list: &mut [u64], count: usize) -> usize
+        requires { Room list.old (enter same_ptr (members count list.old) (matched self.own masks.now (places 0 self.lens.now))) }
+        ensures { members result list.new ≡ enter same_ptr (members count list.old) (matched self.entry.own masks.now (places 0 self.entry.lens.now)) }
+    {
+        let mut n = count;
+        for b in 0..self.lens.len() {
+            n = self.enter_base(b, masks, list, n);
+        }
+        n
+    }
+
+    // The list that a collection starts from: all root pointers, then the allocations that a mask matches.
+    fn start(self, roots: &[u64], masks: &[u64], list: &mut [u64]) -> usize
+        requires { 3 * (length roots.now / 3 + length self.lens.now) ≤ length list.old }
+        ensures { members result list.new ≡ enter same_ptr [] (pointers (cells_in roots.now) ++ matched self.entry.own masks.now (places 0 self.entry.lens.now)) }
+    {
+        let count = enter_roots(roots, list);
+        self.enter_matched(masks, list, count)
+    }
+
+    // Enters the k-th cell, if it is a pointer to the heap own.
+    fn enter_own(self, k: usize, list: &mut [u64], count: usize) -> usize
+        requires k_in_bounds { 3 * k + 2 < length self.cells.now }
+        requires room { Room list.old (enter same_ptr (members count list.old) (own_at self.own self.cells.now k)) }
+        ensures { members result list.new ≡ enter same_ptr (members count list.old) (own_at self.entry.own self.entry.cells.now k) }
+    {
+        let at = 3 * k;
+        if self.cells[at] != value::HEAP_STEP * self.own + value::POINTER {
+            return count;
+        }
         let m = Member {
-            base,
-            offset: 0,
-            heap: own,
+            base: self.cells[at + 1],
+            offset: self.cells[at + 2],
+            heap: self.own,
         };
-        return enter_one(list, count, m);
+        enter_one(list, count, m)
     }
-    count
-}
 
-// Enters each allocation that a mask matches.
-fn enter_matched(lens: &[u64], own: u64, masks: &[u64], list: &mut [u64], count: usize) -> usize
-    requires room { Room list.old (enter same_ptr (members count list.old) (matched own masks.now (places 0 lens.now))) }
-    ensures { members result list.new ≡ enter same_ptr (members count list.old) (matched own masks.now (places 0 lens.now)) }
-{
-    let mut n = count;
-    for b in 0..lens.len() {
-        n = enter_base(lens, b, own, masks, list, n);
+    // Enters each pointer to the heap own of the len cells from the from-th.
+    fn scan(self, from: usize, len: usize, list: &mut [u64], count: usize) -> usize
+        requires len_in_bounds { 3 * (from + len) ≤ length self.cells.now }
+        requires room { Room list.old (enter same_ptr (members count list.old) (flat (tab (own_at self.own self.cells.now) from len))) }
+        ensures { members result list.new ≡ enter same_ptr (members count list.old) (flat (tab (own_at self.entry.own self.entry.cells.now) from len)) }
+    {
+        let mut n = count;
+        for k in from..from + len {
+            n = self.enter_own(k, list, n);
+        }
+        n
     }
-    n
-}
 
-// The list that a collection starts from: all root pointers, then the allocations that a mask matches.
-pub fn start(roots: &[u64], lens: &[u64], own: u64, masks: &[u64], list: &mut [u64]) -> usize
-    requires lens_in_bounds { 3 * (length roots.now / 3 + length lens.now) ≤ length list.old }
-    ensures { members result list.new ≡ enter same_ptr [] (pointers (cells_in roots.now) ++ matched own masks.now (places 0 lens.now)) }
-{
-    let count = enter_roots(roots, list);
-    enter_matched(lens, own, masks, list, count)
-}
-
-// Enters the k-th cell, if it is a pointer to the heap own.
-fn enter_own(cells: &[u64], k: usize, own: u64, list: &mut [u64], count: usize) -> usize
-    requires k_in_bounds { 3 * k + 2 < length cells.now }
-    requires own_bound { own < 2 }
-    requires room { Room list.old (enter same_ptr (members count list.old) (own_at own cells.now k)) }
-    ensures { members result list.new ≡ enter same_ptr (members count list.old) (own_at own cells.now k) }
-{
-    let at = 3 * k;
-    if cells[at] != value::HEAP_STEP * own + value::POINTER {
-        return count;
+    // The cell at which the heap's allocation b begins.
+    fn begins_at(self, b: usize) -> usize
+        requires b_in_bounds { b ≤ length self.lens.now }
+        requires b_bound { begins_at self.own self.lens.now b < 2 ^ 64 }
+        ensures { result ≡ begins_at self.entry.own self.entry.lens.now b }
+    {
+        if self.own == 0 {
+            return b;
+        }
+        words::sum_first(self.lens, b)
     }
-    let m = Member {
-        base: cells[at + 1],
-        offset: cells[at + 2],
-        heap: own,
-    };
-    enter_one(list, count, m)
-}
 
-// Enters each pointer to the heap own of the len cells from the from-th.
-fn scan(cells: &[u64], from: usize, len: usize, own: u64, list: &mut [u64], count: usize) -> usize
-    requires len_in_bounds { 3 * (from + len) ≤ length cells.now }
-    requires own_bound { own < 2 }
-    requires room { Room list.old (enter same_ptr (members count list.old) (flat (tab (own_at own cells.now) from len))) }
-    ensures { members result list.new ≡ enter same_ptr (members count list.old) (flat (tab (own_at own cells.now) from len)) }
-{
-    let mut n = count;
-    for k in from..from + len {
-        n = enter_own(cells, k, own, list, n);
+    // Visits entry p, whichever its heap: enters what the allocation at its base leads to, if there is one.
+    fn visit(self, list: &mut [u64], count: usize, p: usize) -> usize
+        requires p_lt_count { (p < count) × (3 * count ≤ length list.old) }
+        requires room { Room list.old (enter same_ptr (members count list.old) (leads_to self.own self.lens.now self.cells.now (ptr_at list.old p))) }
+        ensures { members result list.new ≡ enter same_ptr (members count list.old) (leads_to self.entry.own self.entry.lens.now self.entry.cells.now (ptr_at list.old p)) }
+    {
+        let at = 3 * p;
+        let b = list[at + 1] as usize;
+        if self.lens.len() <= b {
+            return count;
+        }
+        let len = self.lens[b] as usize;
+        if len == 0 {
+            return count;
+        }
+        let from = self.begins_at(b);
+        self.scan(from, len, list, count)
     }
-    n
-}
 
-// The cell at which the heap's allocation b begins.
-fn begins_at(own: u64, lens: &[u64], b: usize) -> usize
-    requires b_in_bounds { b ≤ length lens.now }
-    requires b_bound { begins_at own lens.now b < 2 ^ 64 }
-    ensures { result ≡ begins_at own lens.now b }
-{
-    if own == 0 {
-        return b;
+    // Visits every entry, in order, also those that are entered on the way.
+    fn walk(self, list: &mut [u64], count: usize) -> usize
+        requires { Room list.old (walk same_ptr (leads_to self.own self.lens.now self.cells.now) (length list.old) 0 (members count list.old)) }
+        ensures { members result list.new ≡ walk same_ptr (leads_to self.entry.own self.entry.lens.now self.entry.cells.now) (length list.old) 0 (members count list.old) }
+    {
+        let mut n = count;
+        let mut p = 0;
+        // No `for`: the list grows as it is walked, so its entries are no range or slice.
+        while p < n {
+            n = self.visit(list, n, p);
+            p += 1;
+        }
+        n
     }
-    words::sum_first(lens, b)
-}
 
-// Visits entry p, whichever its heap: enters what the allocation at its base leads to, if there is one.
-fn visit(lens: &[u64], cells: &[u64], own: u64, list: &mut [u64], count: usize, p: usize) -> usize
-    requires inside { Inside own lens.now cells.now }
-    requires own_bound { own < 2 }
-    requires p_lt_count { (p < count) × (3 * count ≤ length list.old) }
-    requires room { Room list.old (enter same_ptr (members count list.old) (leads_to own lens.now cells.now (ptr_at list.old p))) }
-    ensures { members result list.new ≡ enter same_ptr (members count list.old) (leads_to own lens.now cells.now (ptr_at list.old p)) }
-{
-    let at = 3 * p;
-    let b = list[at + 1] as usize;
-    if lens.len() <= b {
-        return count;
+    // The members of a collection of the heap own.
+    pub fn list_members(self, roots: &[u64], masks: &[u64], list: &mut [u64]) -> usize
+        requires { 3 * (length roots.now / 3 + most_members self.own self.lens.now) ≤ length list.old }
+        ensures { Traced self.entry.own self.entry.lens.now self.entry.cells.now (cells_in roots.now) masks.now (members result list.new) }
+    {
+        let count = self.start(roots, masks, list);
+        self.walk(list, count)
     }
-    let len = lens[b] as usize;
-    if len == 0 {
-        return count;
-    }
-    let from = begins_at(own, lens, b);
-    scan(cells, from, len, own, list, count)
-}
-
-// Visits every entry, in order, also those that are entered on the way.
-fn walk(lens: &[u64], cells: &[u64], own: u64, list: &mut [u64], count: usize) -> usize
-    requires inside { Inside own lens.now cells.now }
-    requires own_bound { own < 2 }
-    requires room { Room list.old (walk same_ptr (leads_to own lens.now cells.now) (length list.old) 0 (members count list.old)) }
-    ensures { members result list.new ≡ walk same_ptr (leads_to own lens.now cells.now) (length list.old) 0 (members count list.old) }
-{
-    let mut n = count;
-    let mut p = 0;
-    // No `for`: the list grows as it is walked, so its entries are no range or slice.
-    while p < n {
-        n = visit(lens, cells, own, list, n, p);
-        p += 1;
-    }
-    n
-}
-
-// The members of a collection of the heap own.
-pub fn list_members(
-    own: u64,
-    roots: &[u64],
-    lens: &[u64],
-    cells: &[u64],
-    masks: &[u64],
-    list: &mut [u64],
-) -> usize
-    requires own_bound { own < 2 }
-    requires within { Within own lens.now cells.now }
-    requires lens_in_bounds { 3 * (length roots.now / 3 + most_members own lens.now) ≤ length list.old }
-    ensures { Traced own lens.now cells.now (cells_in roots.now) masks.now (members result list.new) }
-{
-    let count = start(roots, lens, own, masks, list);
-    walk(lens, cells, own, list, count)
 }

@@ -6,13 +6,14 @@ use Rattle.elder.proofs.members.Goals as goal
 pub layout_of-l-requires : goal.layout_of-l-requires
 layout_of-l-requires c = search (image-says-sized, rules)
 
+pub invariant_of-elder : goal.invariant_of-elder
+invariant_of-elder c = record {
+  two = search rules;
+  within = rw (c.slot_lengths.ensures, c.elder_cells.ensures) (trace-room c.layout_of-l.ensures c.args.image.formed c.args.roots.now c.requires).0;
+}
+
 pub list_members-requires : goal.list_members-requires
-list_members-requires c =
-    let others = trace-room c.layout_of-l.ensures c.args.image.formed c.args.roots.now c.requires in record {
-      own_bound = search rules;
-      within = rw (c.slot_lengths.ensures, c.elder_cells.ensures) others.0;
-      lens_in_bounds = rw c.slot_lengths.ensures others.1;
-    }
+list_members-requires c = rw c.slot_lengths.ensures (trace-room c.layout_of-l.ensures c.args.image.formed c.args.roots.now c.requires).1
 
 pub returns : goal.returns
 returns c =

@@ -6,13 +6,15 @@ use Rattle.nursery.proofs.members.Goals as goal
 pub layout_of-l-requires : goal.layout_of-l-requires
 layout_of-l-requires c = image-says-sized c.args.image.formed
 
-pub list_members-requires : goal.list_members-requires
-list_members-requires c =
+pub invariant_of-nursery : goal.invariant_of-nursery
+invariant_of-nursery c =
     let p = c.layout_of-l.ensures in record {
-      own_bound = search rules;
+      two = search rules;
       within = rw (c.young_lengths.ensures, c.young_cells.ensures) (cells-long p c.args.image.formed, lens-inside p c.args.image.formed);
-      lens_in_bounds = rw c.young_lengths.ensures (list-room p c.args.image.formed _ _ c.requires);
     }
+
+pub list_members-requires : goal.list_members-requires
+list_members-requires c = rw c.young_lengths.ensures (list-room c.layout_of-l.ensures c.args.image.formed _ _ c.requires)
 
 pub returns : goal.returns
 returns c =

@@ -1,13 +1,9 @@
 use borrow.Author.Rules.{rules}
 use Rattle.trace.proofs.Heaps.{own-inside, own-room, own-done}
-use Rattle.trace.proofs.list_members.Goals as goal
+use Rattle.trace.proofs.Region.list_members.Goals as goal
 
 pub walk-requires : goal.walk-requires
-walk-requires c = record {
-  inside = search own-inside;
-  own_bound = search rules;
-  room = search own-room;
-}
+walk-requires c = search own-room
 
 pub returns : goal.returns
 returns c = search own-done

@@ -5,7 +5,7 @@ use lib.ListN.{take}
 use borrow.Author.Rules.{rules}
 use Rattle.model.specs.Lists.{sum}
 use Rattle.trace.specs.Leads.{begins_at}
-use Rattle.trace.proofs.begins_at.Goals as goal
+use Rattle.trace.proofs.Region.begins_at.Goals as goal
 
 young-begins : (own : ℕ) (ls : List ℕ) (b : ℕ) → own ≡ 0 → b ≡ begins_at own ls b
 unfolding begins_at
@@ -26,8 +26,8 @@ module _ (own : ℕ) (ls : List ℕ) (b : ℕ) (h : own ≡ 0 → ⊥) where
   old-is : {s : ℕ} → s ≡ sum (take b ls) → s ≡ begins_at own ls b
   old-is e = e ∙ sym old-begins
 
-pub returns-then-own-eq0 : goal.returns-then-own-eq0
-returns-then-own-eq0 c = search young-begins
+pub returns-then-self-eq0 : goal.returns-then-self-eq0
+returns-then-self-eq0 c = search young-begins
 
 pub sum_first-requires : goal.sum_first-requires
 sum_first-requires c = (search rules, search old-fits)

@@ -10,8 +10,10 @@ use Rattle.model.specs.Reach.{enter}
 use Rattle.model.specs.Records.{Ptr, same_ptr}
 use Rattle.trace.specs.Words.{tab, ptr_at, Room}
 use Rattle.trace.specs.Places.{own_at}
-use Rattle.trace.specs.Leads.{begins_at, leads_to, Inside}
-use Rattle.trace.proofs.visit.Goals as goal
+use Rattle.trace.specs.Leads.{begins_at, leads_to}
+use Rattle.trace.specs.Traces.{Within}
+use Rattle.trace.proofs.Heaps.{own-inside}
+use Rattle.trace.proofs.Region.visit.Goals as goal
 
 module _ (own : ℕ) (ls cells w : List ℕ) (p : ℕ) where
   -- the entry's base
@@ -25,27 +27,27 @@ module _ (own : ℕ) (ls cells w : List ℕ) (p : ℕ) where
   leads-out : (l : List Ptr) → length ls ≤ b → l ≡ enter same_ptr l (leads_to own ls cells (ptr_at w p))
   leads-out l h = leads-nowhere l (get_or-eq_default ls 0 h)
 
-  module _ (i : Inside own ls cells) (h : get_or ls b 0 ≡ 0 → ⊥) where
+  module _ (two : own < 2) (f : Within own ls cells) (h : get_or ls b 0 ≡ 0 → ⊥) where
     inside : 3 * (begins_at own ls b + get_or ls b 0) ≤ length cells
-    inside = i.fits b (pos_of_ne-zero h)
+    inside = (own-inside own ls cells two f).fits b (pos_of_ne-zero h)
 
     begin-fits : length cells < 2 ^ 64 → begins_at own ls b < 2 ^ 64
     begin-fits l = omega (arith, inside)
 
-    module _ (f : ℕ) (e : f ≡ begins_at own ls b) where
-      scan-within : 3 * (f + get_or ls b 0) ≤ length cells
+    module _ (s : ℕ) (e : s ≡ begins_at own ls b) where
+      scan-within : 3 * (s + get_or ls b 0) ≤ length cells
       scan-within = rw e inside
 
-      scan-room : (l : List Ptr) → Room w (enter same_ptr l (leads_to own ls cells (ptr_at w p))) → Room w (enter same_ptr l (flat (tab (own_at own cells) f (get_or ls b 0))))
+      scan-room : (l : List Ptr) → Room w (enter same_ptr l (leads_to own ls cells (ptr_at w p))) → Room w (enter same_ptr l (flat (tab (own_at own cells) s (get_or ls b 0))))
       unfolding leads_to ptr_at
       scan-room l r = rw e r
 
-      scan-done : {m : List Ptr} (l : List Ptr) → m ≡ enter same_ptr l (flat (tab (own_at own cells) f (get_or ls b 0))) → m ≡ enter same_ptr l (leads_to own ls cells (ptr_at w p))
+      scan-done : {m : List Ptr} (l : List Ptr) → m ≡ enter same_ptr l (flat (tab (own_at own cells) s (get_or ls b 0))) → m ≡ enter same_ptr l (leads_to own ls cells (ptr_at w p))
       unfolding leads_to ptr_at
       scan-done l q = rw e at q
 
-pub returns-then-lens-b : goal.returns-then-lens-b
-returns-then-lens-b c = search leads-out
+pub returns-then-self-b : goal.returns-then-self-b
+returns-then-self-b c = search leads-out
 
 pub returns-then-len-eq0 : goal.returns-then-len-eq0
 returns-then-len-eq0 c = search leads-nowhere
@@ -59,7 +61,6 @@ begins_at-from-requires c = record {
 pub scan-requires : goal.scan-requires
 scan-requires c = record {
   len_in_bounds = search scan-within;
-  own_bound = search rules;
   room = search scan-room;
 }
 

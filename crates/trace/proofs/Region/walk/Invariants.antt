@@ -6,7 +6,7 @@ use Rattle.model.specs.Reach.{walk}
 use Rattle.model.specs.Records.{Ptr, same_ptr}
 use Rattle.trace.specs.Words.{members}
 use Rattle.trace.specs.Leads.{leads_to}
-use Rattle.trace.proofs.walk.Given as goal
+use Rattle.trace.proofs.Region.walk.Given as goal
 
 -- The walk has come to entry p: what is left leads to the goal. Its fuel is the words' number, which is above the goal's length.
 pub record Walking (step : Ptr → List Ptr) (goal : List Ptr) (size p : ℕ) (w : List ℕ) (n : ℕ) : Type 0 where
@@ -16,7 +16,7 @@ pub record Walking (step : Ptr → List Ptr) (goal : List Ptr) (size p : ℕ) (w
   pub below : 3 * n ≤ size
 
 abbrev pub invariant-loop-p : goal.invariant-loop-p
-invariant-loop-p l = Walking (leads_to l.own l.lens l.cells) (walk same_ptr (leads_to l.own l.lens l.cells) (length l.initial.list) 0 (members l.count l.initial.list)) (length l.initial.list) l.p l.list l.n
+invariant-loop-p l = Walking (leads_to l.self.own l.self.lens.now l.self.cells.now) (walk same_ptr (leads_to l.self.own l.self.lens.now l.self.cells.now) (length l.initial.list) 0 (members l.count l.initial.list)) (length l.initial.list) l.p l.list l.n
 
 abbrev pub decreases-loop-p : goal.decreases-loop-p
 decreases-loop-p l = length l.initial.list - l.p

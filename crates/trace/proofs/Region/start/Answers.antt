@@ -14,7 +14,7 @@ use Rattle.theorems.proofs.Members.{pointers-length}
 use Rattle.trace.specs.Words.{members, Room}
 use Rattle.trace.proofs.Places.{in-length}
 use Rattle.trace.proofs.Closure.{enter-few, enter-append}
-use Rattle.trace.proofs.start.Goals as goal
+use Rattle.trace.proofs.Region.start.Goals as goal
 
 roots_few : (roots : List ℕ) → length (enter same_ptr [] (pointers (cells_in roots))) ≤ length roots / 3
 roots_few roots = omega (arith, enter-few same_ptr [] (pointers (cells_in roots)), pointers-length (cells_in roots), in-length roots)
@@ -37,9 +37,7 @@ pub enter_roots-count-requires : goal.enter_roots-count-requires
 enter_roots-count-requires c = search roots-room
 
 pub enter_matched-requires : goal.enter_matched-requires
-enter_matched-requires c = record {
-  room = search matched-room;
-}
+enter_matched-requires c = search matched-room
 
 pub returns : goal.returns
 returns c = search begun

@@ -11,8 +11,8 @@ use Rattle.model.specs.Records.{Ptr, same_ptr}
 use Rattle.trace.specs.Words.{ptr_at, Room, members}
 use Rattle.trace.proofs.Entries.{length-members, member-at}
 use Rattle.trace.proofs.Closure.{walk-next, walk_end, walk-grows}
-use Rattle.trace.proofs.walk.Invariants.{Walking}
-use Rattle.trace.proofs.walk.Goals as goal
+use Rattle.trace.proofs.Region.walk.Invariants.{Walking}
+use Rattle.trace.proofs.Region.walk.Goals as goal
 
 module _ (step : Ptr → List Ptr) where
   few : (k p : ℕ) (w : List ℕ) (n : ℕ) (goal : List Ptr) (size : ℕ) → walk same_ptr step k p (members n w) ≡ goal → 3 * length goal ≤ size → 3 * n ≤ size
@@ -49,8 +49,6 @@ loop-p-init c = search walk-begin
 
 pub visit-n-requires : goal.visit-n-requires
 visit-n-requires c = record {
-  inside = search rules;
-  own_bound = search rules;
   p_lt_count = search rules;
   room = search walk-room;
 }

@@ -1,9 +1,9 @@
 use Rattle.trace.proofs.Places.{base-free, base-one, base-none}
 use Rattle.trace.proofs.Entering.{one-room, one-entered, none-entered}
-use Rattle.trace.proofs.enter_base.Goals as goal
+use Rattle.trace.proofs.Region.enter_base.Goals as goal
 
-pub returns-then-lens-b-eq0 : goal.returns-then-lens-b-eq0
-returns-then-lens-b-eq0 c = search (none-entered, base-free)
+pub returns-then-self-b-eq0 : goal.returns-then-self-b-eq0
+returns-then-self-b-eq0 c = search (none-entered, base-free)
 
 pub enter_one-requires : goal.enter_one-requires
 enter_one-requires c = search (one-room, base-one)
