@@ -1,11 +1,11 @@
 -- The cycle, then the change of moved pointers, is the work of an alloc that collects.
-use mathlib.Core.Path.{◌≡◌, refl, sym, ap, ◌∙◌}
+use mathlib.Core.Path.{◌≡◌, sym, ap, ◌∙◌}
 use mathlib.Core.Bool.{false}
 use mathlib.Core.List.{List}
-use Prim.Native.Nat.{ℕ, ◌+◌, ◌*◌, ◌-◌, ◌/◌, ◌≤◌}
+use Prim.Native.Nat.{ℕ, ◌+◌, ◌*◌, ◌/◌, ◌≤◌, min}
 use native.Mathlib.Omega.{arith}
 use lib.ListN.{length, take, drop, length-drop}
-use lib.Seq.{take_all, length-take-le, get_or-take}
+use lib.Seq.{length-take-le, get_or-take}
 use Rattle.std.proofs.Common.{Result, Ok, Err}
 use Rattle.model.specs.Res.{Res, ok, ◌>>=◌}
 use Rattle.model.specs.Barrier.{Barrier, masks}
@@ -21,38 +21,33 @@ use Rattle.question.specs.declared.Question.{Question}
 use Rattle.trace.proofs.Entries.{length-tab}
 use Rattle.trace.proofs.Places.{in-length}
 use Rattle.fields.specs.Fields.{Reads}
-use Rattle.pointers.specs.Steps.{moves_in, move_at, changes_step}
-use Rattle.cycle.specs.Scratch.{bases_at, old_list_at, parts_in, Front}
+use Rattle.pointers.specs.Steps.{moves_in, moves_of, move_at, changes_step}
+use Rattle.cycle.specs.Scratch.{bases_at, old_list_at, PartsOf, parts_in, Front}
+use Rattle.cycle.specs.declared.scratch.Parts.{Parts}
 use Rattle.cycle.specs.Turns.{Turn, push_turn}
 use Rattle.cycle.specs.Outcomes.{Ready, Ran, outcome_answer, gave_turn, kept_to}
 use Rattle.cycle.specs.declared.turns.Request.TheVariants.{New}
 use Rattle.cycle.specs.declared.turns.Gave.{Gave}
 use Rattle.cycle.proofs.Doing.{map_res, does-map}
 use Rattle.cycle.proofs.Frames.{moves-same}
-use Rattle.cycle.proofs.Lending.{image-long}
 use Rattle.cycle.proofs.Sizes.{Moved, moved-few}
 use Rattle.collector.specs.Alloc.{work_step, moves_at, Worked}
 
--- the moves in scratch, as they are lent: from the list up to the new bases, and from there on
+-- the moves in scratch, as they are lent
 
-module _ (w roots s : List ℕ) (k : ℕ) (i : Image w (decode w)) (room : scratch_length (decode w).size (length roots / 3) ≤ length s) (few : k ≤ length roots / 3 + 2 * (decode w).size.n)
-    {at b : ℕ} (from : at ≡ length w) (to : b ≡ bases_at (decode w).size (length roots / 3)) where
-  at-is : at ≡ image_length (decode w).size
-  at-is = from ∙ image-long i
-
-  pub lists-inside : (at ≤ b) × (b ≤ length s)
+module _ (w roots s : List ℕ) {k : ℕ} (room : scratch_length (decode w).size (length roots / 3) ≤ length s) (few : k ≤ length roots / 3 + 2 * (decode w).size.n) {p : Parts} (at : PartsOf (decode w).size (length roots / 3) p) where
+  pub lists-inside : (p.members + 3 * k ≤ length s) × (p.bases + k ≤ length s)
   unfolding scratch_length
-  lists-inside = (omega (arith, at-is), omega arith)
+  lists-inside = let m = at.members in let b = at.bases in (omega arith, omega arith)
 
-  pub lists-long : (3 * k ≤ length (take (b - at) (drop at s))) × (k ≤ length (take (length s - b) (drop b s)))
-  unfolding scratch_length
-  lists-long = (omega (arith, length-take-le (b - at) (drop at s) (omega (arith, length-drop at s, at-is)), at-is), omega (arith, length-take-le (length s - b) (drop b s) (omega (arith, length-drop b s)), at-is))
-
-  pub lists-hold : moves_in k (take (b - at) (drop at s)) (take (length s - b) (drop b s)) ≡ moves_at (decode w).size (length roots / 3) k s
+  pub lists-hold : moves_of (take (3 * k) (drop p.members s)) (take k (drop p.bases s)) ≡ moves_at (decode w).size (length roots / 3) k s
   lists-hold =
-      let e : moves_in k (take (b - at) (drop at s)) (drop b s) ≡ moves_in k (drop at s) (drop b s) =
-      moves-same k (take (b - at) (drop at s)) (drop at s) (λ j h. get_or-take (b - at) (drop at s) j 0 (omega (arith, at-is))) (drop b s) (drop b s) (λ j h. refl) in
-      rw (take_all (length s - b) (drop b s) (omega (arith, length-drop b s))) (e ∙ rw (at-is, to))
+      let long : length (take (3 * k) (drop p.members s)) ≡ 3 * k = length-take-le (3 * k) (drop p.members s) (omega (arith, length-drop p.members s, lists-inside)) in
+      let many : length (take k (drop p.bases s)) ≡ k = length-take-le k (drop p.bases s) (omega (arith, length-drop p.bases s, lists-inside)) in
+      let all : min (length (take (3 * k) (drop p.members s)) / 3) (length (take k (drop p.bases s))) ≡ k = omega arith in
+      let cut : moves_in k (take (3 * k) (drop p.members s)) (take k (drop p.bases s)) ≡ moves_in k (drop p.members s) (drop p.bases s) =
+      moves-same k (take (3 * k) (drop p.members s)) (drop p.members s) (λ j h. get_or-take (3 * k) (drop p.members s) j 0 h) (take k (drop p.bases s)) (drop p.bases s) (λ j h. get_or-take k (drop p.bases s) j 0 h) in
+      ap (λ (n : ℕ). moves_in n (take (3 * k) (drop p.members s)) (take k (drop p.bases s))) all ∙ cut ∙ rw (at.members, at.bases)
 
 pub lists-there : (w roots s : List ℕ) → scratch_length (decode w).size (length roots / 3) ≤ length s → old_list_at (decode w).size (length roots / 3) ≤ length s
 unfolding scratch_length

@@ -30,7 +30,7 @@ alloc_outcome r v roots = record {
 
 -- the answer of a call that collected the nursery
 unfoldable pub gave_outcome : Gave → List ℕ → List ℕ → Outcome
-gave_outcome g v roots = record { answer = ok (g.heap ∷ g.base ∷ 0 ∷ 1 ∷ g.visits ∷ g.sweeps ∷ g.entered ∷ []); image = v; roots = roots }
+gave_outcome g v roots = record { answer = ok (g.heap ∷ g.base ∷ 0 ∷ 1 ∷ g.visits ∷ g.elder.collections ∷ g.elder.visits ∷ []); image = v; roots = roots }
 
 -- the cycle, then moved pointers changed in both generations
 unfoldable pub work_step : (ℕ → List Cell) → List Cell → ℕ → Heap → Res (Turn × Heap)

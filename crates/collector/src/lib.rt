@@ -1,5 +1,6 @@
 // Alloc: the nursery, its collection with the moves that it makes, and the change of moved pointers. `alloc` takes any words,
-// `alloc_formed` an image that 1 and 2 were asked of.
+// `alloc_formed` an image that 1 and 2 were asked of. Image, roots, scratch and amount stay four parameters: the C interface hands them
+// over like this.
 #![tactic(auto)]
 
 mod saved;
@@ -22,17 +23,12 @@ ghost use Rattle.cycle.specs.declared.turns.Request.TheVariants.{New};
 ghost use Rattle.collector.specs.Alloc.{Worked, moves_at, gave_outcome, alloc_outcome};
 
 use barrier::masks::Masks;
+use cycle::scratch::Parts;
+pub use cycle::turns::Work;
 use cycle::turns::{Gave, Request};
 use image::formed::Formed;
 use question::Question;
 use value::Pointer;
-
-// A generation's collections in one call, and their visits.
-#[derive(Clone, Copy, Default)]
-pub struct Work {
-    pub collections: u64,
-    pub visits: u64,
-}
 
 #[derive(Clone, Copy)]
 pub struct Allocation {
@@ -41,7 +37,8 @@ pub struct Allocation {
     pub elder: Work,
 }
 
-// The words of scratch that 4 asks for.
+// The words of scratch that 4 asks for. `Sizes::scratch_words` has nothing for sizes out of bounds; an image's are in bounds, so that here
+// would be an answer that is never given.
 fn scratch_for(image: Formed<'_>, roots: &[u64]) -> usize
     requires { roots_good roots.now ≡ true }
     ensures { result ≡ scratch_length (decode image.entry.words.now).size (length roots.now / 3) }
@@ -86,14 +83,10 @@ fn collected(g: Gave) -> Allocation
         collections: 1,
         visits: g.visits,
     };
-    let elder = Work {
-        collections: g.sweeps,
-        visits: g.entered,
-    };
     Allocation {
         pointer,
         nursery,
-        elder,
+        elder: g.elder,
     }
 }
 
@@ -109,9 +102,8 @@ fn change_heap(
     requires moved_in_bounds { moved ≤ length roots.now / 3 + 2 * (decode image.old).size.n }
     ensures { Does (changes_step (moves_at (decode image.old).size (length roots.now / 3) moved scratch.now)) image.old (done_answer result) image.new }
 {
-    let at = image.len();
-    let bases = cycle::scratch::bases_at(Formed { words: image }, roots);
-    pointers::change_all(image, &scratch[at..bases], &scratch[bases..], moved)
+    let p = Parts::of(Formed { words: image }, roots);
+    pointers::change_all(image, p.members(scratch, moved), p.bases(scratch, moved))
 }
 
 // The cycle, then the change.
@@ -145,9 +137,8 @@ fn change_roots(image: Formed<'_>, roots: &mut [u64], scratch: &[u64], moved: us
     requires moved_in_bounds { moved ≤ length roots.old / 3 + 2 * (decode image.words.now).size.n }
     ensures { roots.new ≡ cell_words (swap_roots (moves_at (decode image.entry.words.now).size (length roots.old / 3) moved scratch.now) (cells_in roots.old)) }
 {
-    let at = image.words.len();
-    let bases = cycle::scratch::bases_at(image, roots);
-    pointers::change_roots(roots, &scratch[at..bases], &scratch[bases..], moved);
+    let p = Parts::of(image, roots);
+    pointers::change_roots(roots, p.members(scratch, moved), p.bases(scratch, moved));
 }
 
 // An amount that does not fit. A refusal at any depth puts the image back.

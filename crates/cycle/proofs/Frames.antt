@@ -47,7 +47,7 @@ module _ {k : ℕ} {s s' : List ℕ} (f : Front k s s') where
 
 module _ (n : ℕ) (x y : List ℕ) (e : (j : ℕ) → j < 3 * n → get_or x j 0 ≡ get_or y j 0) where
   pub moves-same : (a b : List ℕ) → ((j : ℕ) → j < n → get_or a j 0 ≡ get_or b j 0) → moves_in n x a ≡ moves_in n y b
-  unfolding moves_in move_at
+  unfolding moves_in move_at ptr_at
   moves-same a b f = tab-ext (move_at x a) (move_at y b) 0 n (λ k l. rw (e (3 * k + 1) (omega arith), e (3 * k + 2) (omega arith), f k (omega arith)))
 
 pub members-more : (n : ℕ) (x : List ℕ) → members (n + 1) x ≡ members n x ++ ptr_at x n ∷ []

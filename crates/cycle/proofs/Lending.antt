@@ -40,7 +40,7 @@ sizes w = (decode w).size
 pub image-long : {w : List ℕ} → Image w (decode w) → length w ≡ image_length (sizes w)
 image-long {w} i = ap length i.is ∙ encode-length (decode w) i.fit
 
--- the image's length and N, for `bases_at` and `old_list_at`
+-- the image's length and N
 pub record Measured (w : List ℕ) (n : ℕ) : Type 0 where
   pub long : length w ≡ image_length (sizes w)
   pub size : n ≡ (sizes w).n

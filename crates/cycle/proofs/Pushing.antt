@@ -33,7 +33,7 @@ use Rattle.pointers.specs.Steps.{move_at, moves_in}
 use Rattle.cycle.specs.declared.turns.Request.{Request}
 use Rattle.cycle.specs.declared.turns.Request.TheVariants.{New, Move}
 use Rattle.cycle.specs.declared.turns.Gave.{Gave}
-use Rattle.cycle.specs.declared.turns.Tally.{Tally}
+use Rattle.cycle.specs.declared.turns.Work.{Work}
 use Rattle.cycle.specs.Scratch.{bases_at, old_list_at, parts_in, Saved, Front, CollectedIn}
 use Rattle.cycle.specs.Turns.{Turn, Pushed, none, noted, finished, push_one, elder_turn, again_turn, collect_and_push, push_turn, turn}
 use Rattle.cycle.specs.Outcomes.{Asked, Ready, Ran, outcome_answer, gave_turn, finished_gave, kept_to}
@@ -48,8 +48,8 @@ tab-in f i (suc n) zero l = Memᴰ.head (ap f (add-zero i))
 tab-in f i (suc n) (suc k) l = let m : Memᴰ (f (i + suc k)) (tab f (suc i) n) = rw add-suc (rw suc-add at (tab-in f (suc i) n k (le_of_suc-le-suc l))) in Memᴰ.tail m
 
 -- what the survivors got so far stands in scratch and in the tally
-unfoldable pub pushed_in : Sizes → ℕ → ℕ → List ℕ → Tally → Pushed
-pushed_in z r i x tally = record { moves = moves_in i (drop (image_length z) x) (drop (bases_at z r) x); sweeps = tally.sweeps; entered = tally.entered }
+unfoldable pub pushed_in : Sizes → ℕ → ℕ → List ℕ → Work → Pushed
+pushed_in z r i x tally = record { moves = moves_in i (drop (image_length z) x) (drop (bases_at z r) x); sweeps = tally.collections; entered = tally.visits }
 
 member-in : (n : ℕ) (w : List ℕ) (i : ℕ) → i < n → Memᴰ (ptr_at w i) (members n w)
 unfolding members
@@ -68,7 +68,7 @@ pub record Begun (w roots s : List ℕ) (what : Request) (c : Collected) (u t : 
   pub long : length t ≡ length s
 
 -- i survivors were pushed: v is the image now, x scratch
-pub record Pushing (w roots ms s : List ℕ) (moved : ℕ) (u t v x : List ℕ) (tally : Tally) (i : ℕ) : Type 0 where
+pub record Pushing (w roots ms s : List ℕ) (moved : ℕ) (u t v x : List ℕ) (tally : Work) (i : ℕ) : Type 0 where
   pub few : i ≤ moved
   pub image : Image v (decode v)
   pub sizes : (decode v).size ≡ (decode w).size
@@ -76,8 +76,8 @@ pub record Pushing (w roots ms s : List ℕ) (moved : ℕ) (u t v x : List ℕ) 
   pub front : Front (image_length (decode w).size) s x
   pub list : (j : ℕ) → j < 3 * moved → get_or (drop (image_length (decode w).size) x) j 0 ≡ get_or (drop (image_length (decode w).size) t) j 0
   pub does : Does (λ h. each (push_one (parts_in (decode w).size s) (cells_in roots) ms) (members i (drop (image_length (decode w).size) t)) (none, h)) u (ok (pushed_in (decode w).size (length roots / 3) i x tally)) v
-  pub sweeps : tally.sweeps ≤ i
-  pub entered : tally.entered ≤ i * (length roots / 3 + (decode w).size.s + (decode w).size.c)
+  pub sweeps : tally.collections ≤ i
+  pub entered : tally.visits ≤ i * (length roots / 3 + (decode w).size.s + (decode w).size.c)
 
 module _ {w roots s : List ℕ} {what : Request} {c : Collected} {u t : List ℕ} (b : Begun w roots s what c u t) where
   abbrev moved : ℕ
@@ -124,7 +124,7 @@ module _ {w roots s : List ℕ} {what : Request} {c : Collected} {u t : List ℕ
   unfolding decode sizes_of
   c-small = (sized-in b.ready.image).bounds.c
 
-  pub pushing-none : {ms : List ℕ} → Pushing w roots ms s moved u t u t (record { sweeps = 0; entered = 0 }) 0
+  pub pushing-none : {ms : List ℕ} → Pushing w roots ms s moved u t u t (record { collections = 0; visits = 0 }) 0
   unfolding members tab pushed_in moves_in none
   pushing-none {ms} = record {
     few = omega arith;
@@ -146,7 +146,7 @@ module _ {w roots s : List ℕ} {what : Request} {c : Collected} {u t : List ℕ
   then-push : List ℕ → ℕ × List Ptr → Heap → Res (Turn × Heap)
   then-push ms k h = each (push_one (parts_in z s) (cells_in roots) ms) k.1 (none, h) >>= λ m. again_turn (parts_in z s) (cells_in roots) ms what m.1 >>= λ y. ok (finished k.0 m.0 y.0, y.1)
 
-  module _ {ms v x : List ℕ} {tally : Tally} {i : ℕ} (p : Pushing w roots ms s moved u t v x tally i) where
+  module _ {ms v x : List ℕ} {tally : Work} {i : ℕ} (p : Pushing w roots ms s moved u t v x tally i) where
     length-is : length v ≡ image_length z
     length-is = ap length p.image.is ∙ encode-length (decode v) p.image.fit ∙ ap image_length p.sizes
 
@@ -221,24 +221,24 @@ module _ {w roots s : List ℕ} {what : Request} {c : Collected} {u t : List ℕ
           sizes' : (decode v').size ≡ z
           sizes' = ap (λ (h : Heap). h.size) went.3 ∙ small.sizes ∙ p.sizes
 
-          one : g.sweeps ≤ 1
+          one : g.elder.collections ≤ 1
           unfolding gave_turn
-          one = let k : g.sweeps ≡ went.0.0.sweeps = ap (λ (y : Turn). y.sweeps) went.2 in omega (arith, small.sweeps)
+          one = let k : g.elder.collections ≡ went.0.0.sweeps = ap (λ (y : Turn). y.sweeps) went.2 in omega (arith, small.sweeps)
 
-          within : g.entered ≤ length roots / 3 + z.s + z.c
+          within : g.elder.visits ≤ length roots / 3 + z.s + z.c
           unfolding gave_turn
           within =
-              let k : g.entered ≡ went.0.0.entered = ap (λ (y : Turn). y.entered) went.2 in
+              let k : g.elder.visits ≡ went.0.0.entered = ap (λ (y : Turn). y.entered) went.2 in
               let l : went.0.0.entered ≤ length roots / 3 + z.s + z.c = rw (← p.sizes, ← in-length roots) small.entered in
               omega arith
 
-          pub note-asks : (Image v' (decode v')) × (old_list_at (decode v').size (length roots / 3) ≤ length x') × (i < length roots / 3 + 2 * (decode v').size.n) × (tally.sweeps + g.sweeps < 2 ^ 64) × (tally.entered + g.entered < 2 ^ 64)
+          pub note-asks : (Image v' (decode v')) × (old_list_at (decode v').size (length roots / 3) ≤ length x') × (i < length roots / 3 + 2 * (decode v').size.n) × (tally.collections + g.elder.collections < 2 ^ 64) × (tally.visits + g.elder.visits < 2 ^ 64)
           unfolding scratch_length
           note-asks =
               (went.4, rw sizes' (omega (arith, long', p.long, b.ready.room)), rw sizes' (omega (arith, few-moved)), omega (arith, p.sweeps, one, few-moved, p.few, few-roots, n-small), omega (arith, p.entered, within, mul-le-mul {n₁ = i} {m₁ = length roots / 3 + z.s + z.c} {n₂ = 8192} {m₂ = 77824} (omega (arith, few-moved, few-roots, n-small)) (omega (arith, few-roots, s-small, c-small)), few-roots, s-small, c-small))
 
           -- one more
-          module _ {x'' : List ℕ} (written : x'' ≡ set x' (bases_at (decode v').size (length roots / 3) + i) g.base) (tally' : Tally) (counts : (tally'.sweeps ≡ tally.sweeps + g.sweeps) × (tally'.entered ≡ tally.entered + g.entered)) where
+          module _ {x'' : List ℕ} (written : x'' ≡ set x' (bases_at (decode v').size (length roots / 3) + i) g.base) (tally' : Work) (counts : (tally'.collections ≡ tally.collections + g.elder.collections) × (tally'.visits ≡ tally.visits + g.elder.visits)) where
             at_base : x'' ≡ set x' (bases_at z (length roots / 3) + i) g.base
             at_base = rw (← sizes') written
 
@@ -316,7 +316,7 @@ module _ {w roots s : List ℕ} {what : Request} {c : Collected} {u t : List ℕ
 
         finished-is : (q : Result Gave Question) → map_res (finished visits (pushed_in z (length roots / 3) moved x tally)) (outcome_answer z (length roots / 3) x' q) ≡ outcome_answer z (length roots / 3) x' (map_gave (λ g. finished_gave g c tally) q)
         unfolding finished pushed_in gave_turn finished_gave
-        finished-is (Ok g) = λ k. ok (record { ptr = whole g.heap g.base; visits = visits; moves = moves-kept k; sweeps = tally.sweeps; entered = tally.entered })
+        finished-is (Ok g) = λ k. ok (record { ptr = whole g.heap g.base; visits = visits; moves = moves-kept k; sweeps = tally.collections; entered = tally.visits })
         finished-is (Err q) = refl
 
         pub pushing-done : Ran (push_turn (parts_in z s) (cells_in roots) ms what 2 false) 2 false w roots s (map_gave (λ g. finished_gave g c tally) o) v' x'

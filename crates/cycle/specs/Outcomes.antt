@@ -14,13 +14,13 @@ use Rattle.pointers.specs.Steps.{moves_in}
 use Rattle.cycle.specs.declared.turns.Request.{Request}
 use Rattle.cycle.specs.declared.turns.Request.TheVariants.{New, Move}
 use Rattle.cycle.specs.declared.turns.Gave.{Gave}
-use Rattle.cycle.specs.declared.turns.Tally.{Tally}
+use Rattle.cycle.specs.declared.turns.Work.{Work}
 use Rattle.cycle.specs.Scratch.{bases_at, old_list_at, young_in, Saved, Front}
 use Rattle.cycle.specs.Turns.{Turn, pick}
 
 -- the moves stand in scratch
 unfoldable pub gave_turn : Sizes → ℕ → List ℕ → Gave → Turn
-gave_turn z r s g = record { ptr = whole g.heap g.base; visits = g.visits; moves = moves_in g.moved (drop (image_length z) s) (drop (bases_at z r) s); sweeps = g.sweeps; entered = g.entered }
+gave_turn z r s g = record { ptr = whole g.heap g.base; visits = g.visits; moves = moves_in g.moved (drop (image_length z) s) (drop (bases_at z r) s); sweeps = g.elder.collections; entered = g.elder.visits }
 
 abbrev pub outcome_answer : Sizes → ℕ → List ℕ → Result Gave Question → Res Turn
 outcome_answer z r s o = answer (gave_turn z r s) o
@@ -32,13 +32,13 @@ pub record Gives (step : Heap → Res (Turn × Heap)) (w : List ℕ) (o : Result
 -- what the small functions make
 
 unfoldable pub gave_at : ℕ → ℕ → Gave
-gave_at heap base = record { heap = heap; base = base; moved = 0; visits = 0; sweeps = 0; entered = 0 }
+gave_at heap base = record { heap = heap; base = base; moved = 0; visits = 0; elder = record { collections = 0; visits = 0 } }
 
 unfoldable pub swept_gave : Gave → ℕ → Gave
-swept_gave g v = record { heap = g.heap; base = g.base; moved = g.moved; visits = g.visits; sweeps = 1; entered = v }
+swept_gave g v = record { heap = g.heap; base = g.base; moved = g.moved; visits = g.visits; elder = record { collections = 1; visits = v } }
 
-unfoldable pub finished_gave : Gave → Collected → Tally → Gave
-finished_gave g c t = record { heap = g.heap; base = g.base; moved = c.survivors; visits = c.visits; sweeps = t.sweeps; entered = t.entered }
+unfoldable pub finished_gave : Gave → Collected → Work → Gave
+finished_gave g c elder = record { heap = g.heap; base = g.base; moved = c.survivors; visits = c.visits; elder = elder }
 
 -- a new array has cells; a part that is moved has, too
 abbrev pub Asked : Request → Sizes → List ℕ → Type 0

@@ -13,6 +13,7 @@ use Rattle.elder.specs.Steps as elder
 use Rattle.nursery.specs.Steps.{collected_answer}
 use Rattle.nursery.specs.Steps as nursery
 use Rattle.nursery.specs.declared.Collected.{Collected}
+use Rattle.cycle.specs.declared.scratch.Parts.{Parts}
 
 -- the image, three words for each of r + 2N young members, a new base for each, the elder's members
 
@@ -21,6 +22,11 @@ bases_at z r = image_length z + 3 * (r + 2 * z.n)
 
 abbrev pub old_list_at : Sizes → ℕ → ℕ
 old_list_at z r = image_length z + 4 * (r + 2 * z.n)
+
+pub record PartsOf (z : Sizes) (r : ℕ) (p : Parts) : Type 0 where
+  pub members : p.members ≡ image_length z
+  pub bases : p.bases ≡ bases_at z r
+  pub elder : p.elder ≡ old_list_at z r
 
 -- The nursery that is saved in front: its lengths and cells stand where an image has them. A move needs no more of it.
 

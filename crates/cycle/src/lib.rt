@@ -1,6 +1,9 @@
 // `alloc_or_collect` and `collect_and_push_allocation`, which call each other. `left` is the number of generations left, 2 or 1: the
 // nursery and the elder, or the elder alone; it and `collected` make the falling number. `masks` are the elder's. The nursery as it
 // was before the call is saved in front of scratch, and is what the moves copy from.
+//
+// The number and the flag are the form that document 01 names. The slices are the caller's own, from the C interface on: a struct of
+// them would be made anew for each call, as image and scratch are read and written between two calls.
 #![tactic(auto)]
 
 pub mod scratch;
@@ -15,7 +18,7 @@ ghost use Rattle.cycle.specs.Outcomes.{Ready, Ran};
 
 use image::formed::Formed;
 use question::Question;
-use turns::{Gave, Request, Tally};
+use turns::{Gave, Request, Work};
 
 #[cycle(alloc_or_collect_collect_and_push_allocation)]
 pub fn alloc_or_collect(
@@ -59,7 +62,7 @@ pub fn collect_and_push_allocation(
         return Ok(g.also_swept(visits));
     }
     let c = scratch::collect_nursery(image, roots, scratch)?;
-    let mut tally = Tally::default();
+    let mut tally = Work::default();
     for i in 0..c.survivors {
         let base = scratch::survivor(scratch, image.len(), i);
         let g = alloc_or_collect(image, roots, masks, scratch, Request::Move(base), 1, false)?;

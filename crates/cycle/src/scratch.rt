@@ -1,13 +1,13 @@
 // The parts of scratch: the saved image; for each of at most R + 2N young members three words, then a new base for each; the elder's
 // members.
-ghost use Rattle.std.specs.Prelude.{◌≡◌, ◌+◌, ◌*◌, ◌/◌, ◌^◌, ◌≤◌, ◌<◌, length, get_or};
+ghost use Rattle.std.specs.Prelude.{◌≡◌, ◌+◌, ◌*◌, ◌/◌, ◌^◌, ◌≤◌, ◌<◌, length, get_or, take, drop};
 ghost use Rattle.model.specs.Image.{decode};
 ghost use Rattle.model.specs.Calls.{scratch_length};
 ghost use Rattle.theorems.specs.Fit.{Image};
 ghost use Rattle.theorems.specs.Does.{Does};
 ghost use Rattle.question.specs.Question.{number_answer};
 ghost use Rattle.elder.specs.Steps.{place_step};
-ghost use Rattle.cycle.specs.Scratch.{bases_at, old_list_at, young_in, parts_in, Saved, SweptIn, CollectedIn};
+ghost use Rattle.cycle.specs.Scratch.{old_list_at, PartsOf, young_in, parts_in, Saved, SweptIn, CollectedIn};
 
 use barrier::masks::Masks;
 use image::formed::Formed;
@@ -16,22 +16,48 @@ use nursery::Collected;
 use question::Question;
 use words::Source;
 
-// Where the new bases stand.
-pub fn bases_at(image: Formed<'_>, roots: &[u64]) -> usize
-    requires { old_list_at (decode image.words.now).size (length roots.now / 3) < 2 ^ 64 }
-    ensures { result ≡ bases_at (decode image.entry.words.now).size (length roots.now / 3) }
-{
-    let n = fields::header_of(image).n as usize;
-    image.words.len() + 3 * (roots.len() / 3 + 2 * n)
+// Where the lists stand behind the saved image: the young members, the new bases, the elder's members.
+#[derive(Clone, Copy)]
+pub struct Parts {
+    pub members: usize,
+    pub bases: usize,
+    pub elder: usize,
 }
 
-// Where the elder's members are listed.
-fn old_list_at(image: Formed<'_>, roots: &[u64]) -> usize
-    requires { old_list_at (decode image.words.now).size (length roots.now / 3) < 2 ^ 64 }
-    ensures { result ≡ old_list_at (decode image.entry.words.now).size (length roots.now / 3) }
-{
-    let n = fields::header_of(image).n as usize;
-    image.words.len() + 4 * (roots.len() / 3 + 2 * n)
+impl Parts {
+    pub fn of(image: Formed<'_>, roots: &[u64]) -> Parts
+        requires { old_list_at (decode image.words.now).size (length roots.now / 3) < 2 ^ 64 }
+        ensures { PartsOf (decode image.entry.words.now).size (length roots.now / 3) result }
+    {
+        let n = fields::header_of(image).n as usize;
+        let most = roots.len() / 3 + 2 * n;
+        let members = image.words.len();
+        let bases = members + 3 * most;
+        let elder = bases + most;
+        Parts {
+            members,
+            bases,
+            elder,
+        }
+    }
+
+    // The first count young members.
+    pub fn members(self, scratch: &[u64], count: usize) -> &[u64]
+        requires { self.members + 3 * count ≤ length scratch.now }
+        ensures { result.now ≡ take (3 * count) (drop self.members scratch.now) }
+    {
+        let end = self.members + 3 * count;
+        &scratch[self.members..end]
+    }
+
+    // Their new bases.
+    pub fn bases(self, scratch: &[u64], count: usize) -> &[u64]
+        requires { self.bases + count ≤ length scratch.now }
+        ensures { result.now ≡ take count (drop self.bases scratch.now) }
+    {
+        let end = self.bases + count;
+        &scratch[self.bases..end]
+    }
 }
 
 // The base of survivor i.
@@ -53,7 +79,7 @@ pub fn sweep(
     requires roots_in_bounds { scratch_length (decode image.old).size (length roots.now / 3) ≤ length scratch.old }
     ensures { SweptIn image.old roots.now masks.now scratch.old result image.new scratch.new }
 {
-    let at = old_list_at(Formed { words: image }, roots);
+    let at = Parts::of(Formed { words: image }, roots).elder;
     elder::collect(image, roots, masks, &mut scratch[at..])
 }
 
@@ -72,7 +98,7 @@ pub fn collect_nursery(
     nursery::collect(image, roots, masks.as_slice(), &mut scratch[at..])
 }
 
-// The saved allocation at base moved to the elder.
+// The saved allocation at base moved to the elder. Not by a method of `Layout`: scratch is longer than the image, and none itself.
 pub fn place_part(image: &mut [u64], scratch: &[u64], base: u64) -> Result<u64, Question>
     requires image { Image image.old (decode image.old) }
     requires saved { Saved (decode image.old).size scratch.now }

@@ -1,4 +1,5 @@
-// One turn of the cycle: what is asked of a generation, and what it gave.
+// One turn of the cycle: what is asked of a generation, and what it gave. `left` and `collected` are those of the cycle's functions, in
+// the form that document 01 names.
 ghost use Rattle.std.specs.Prelude.{Ok, ◌≡◌, true, false, ◌+◌, ◌-◌, ◌*◌, ◌/◌, ◌^◌, ◌≤◌, ◌<◌, length, set};
 ghost use Rattle.model.specs.Image.{decode};
 ghost use Rattle.theorems.specs.Fit.{Image};
@@ -7,10 +8,11 @@ ghost use Rattle.cycle.specs.Scratch.{bases_at, old_list_at, Saved, parts_in};
 ghost use Rattle.cycle.specs.Turns.{bumped, must_collect, give_in};
 ghost use Rattle.cycle.specs.Outcomes.{Asked, Gives, gave_at, swept_gave, finished_gave};
 
-use crate::scratch;
+use crate::scratch::{self, Parts};
 use image::formed::Formed;
 use nursery::Collected;
 use question::Question;
+use std::ops::Add;
 use words::Source;
 
 // A new array of so many cells, or the nursery's allocation at a base moved.
@@ -20,22 +22,36 @@ pub enum Request {
     Move(u64),
 }
 
-// Where it went; how many pointers were moved for it, the nursery's visits; the elder's collections, and what they entered.
+// A generation's collections, and their visits.
+#[derive(Clone, Copy, Default)]
+pub struct Work {
+    pub collections: u64,
+    pub visits: u64,
+}
+
+impl Add for Work {
+    type Output = Work;
+
+    ghost can_add = { λ a b. (a.collections + b.collections < 2 ^ 64) × (a.visits + b.visits < 2 ^ 64) };
+
+    ghost add_gives = { λ a b r. (r.collections ≡ a.collections + b.collections) × (r.visits ≡ a.visits + b.visits) };
+
+    fn add(self, more: Work) -> Work {
+        Work {
+            collections: self.collections + more.collections,
+            visits: self.visits + more.visits,
+        }
+    }
+}
+
+// Where it went; how many pointers were moved for it, the nursery's visits; the elder's collections.
 #[derive(Clone, Copy, Default)]
 pub struct Gave {
     pub heap: u8,
     pub base: u64,
     pub moved: usize,
     pub visits: u64,
-    pub sweeps: u64,
-    pub entered: u64,
-}
-
-// The elder's collections for the survivors so far, and what they entered.
-#[derive(Clone, Copy, Default)]
-pub struct Tally {
-    pub sweeps: u64,
-    pub entered: u64,
+    pub elder: Work,
 }
 
 impl Gave {
@@ -54,22 +70,21 @@ impl Gave {
     pub fn also_swept(self, visits: u64) -> Gave
         ensures { result ≡ swept_gave self visits }
     {
-        Gave {
-            sweeps: 1,
-            entered: visits,
-            ..self
-        }
+        let elder = Work {
+            collections: 1,
+            visits,
+        };
+        Gave { elder, ..self }
     }
 
-    // With a collection of the nursery before it.
-    pub fn finished(self, c: Collected, tally: Tally) -> Gave
-        ensures { result ≡ finished_gave self c tally }
+    // With a collection of the nursery before it, and the elder's for its survivors.
+    pub fn finished(self, c: Collected, elder: Work) -> Gave
+        ensures { result ≡ finished_gave self c elder }
     {
         Gave {
             moved: c.survivors,
             visits: c.visits,
-            sweeps: tally.sweeps,
-            entered: tally.entered,
+            elder,
             ..self
         }
     }
@@ -125,25 +140,22 @@ pub fn give_in(
     }
 }
 
-// Survivor i stands at the base that was given.
+// Survivor i stands at the base that was given; the elder's work for the survivors so far.
 pub fn note(
     image: Formed<'_>,
     roots: &[u64],
     scratch: &mut [u64],
     i: usize,
-    tally: Tally,
+    tally: Work,
     g: Gave,
-) -> Tally
+) -> Work
     requires roots_in_bounds { old_list_at (decode image.words.now).size (length roots.now / 3) ≤ length scratch.old }
     requires i_in_bounds { i < length roots.now / 3 + 2 * (decode image.words.now).size.n }
-    requires sweeps_bound { (tally.sweeps + g.sweeps < 2 ^ 64) × (tally.entered + g.entered < 2 ^ 64) }
+    requires sums_bound { (tally.collections + g.elder.collections < 2 ^ 64) × (tally.visits + g.elder.visits < 2 ^ 64) }
     ensures scratch_after { scratch.new ≡ set scratch.old (bases_at (decode image.entry.words.now).size (length roots.now / 3) + i) g.base }
-    ensures sweeps_value { (result.sweeps ≡ tally.sweeps + g.sweeps) × (result.entered ≡ tally.entered + g.entered) }
+    ensures sums { (result.collections ≡ tally.collections + g.elder.collections) × (result.visits ≡ tally.visits + g.elder.visits) }
 {
-    let at = scratch::bases_at(image, roots);
+    let at = Parts::of(image, roots).bases;
     scratch[at + i] = g.base;
-    Tally {
-        sweeps: tally.sweeps + g.sweeps,
-        entered: tally.entered + g.entered,
-    }
+    tally + g.elder
 }

@@ -1,7 +1,7 @@
 -- A pointer changed in both generations, and many.
 use mathlib.Core.Path.{◌≡◌, refl, sym, subst, ◌∙◌}
 use mathlib.Core.List.{List, ◌∷◌, map}
-use Prim.Native.Nat.{ℕ, zero, suc, ◌+◌, ◌-◌, ◌≤◌, ◌<◌}
+use Prim.Native.Nat.{ℕ, zero, suc, ◌+◌, ◌-◌, ◌≤◌}
 use native.Mathlib.Nat.{sub-zero}
 use native.Mathlib.Omega.{arith}
 use lib.ListN.{length, take}
@@ -32,7 +32,8 @@ use Rattle.changes.specs.Changes.{times, count_change}
 use Rattle.changes.proofs.Laws.{each-times, each-times-flat}
 use Rattle.fields.specs.Fields.{Reads, Turns, on_young, with_bar, with_old_bar, bar_of, on_bar}
 use Rattle.fields.proofs.Counts.{bar-fit, bar-same}
-use Rattle.pointers.specs.Steps.{swapped_young, count_moved, young_step, old_step, with_both, change_step, changes_step, move_at, moves_in}
+use Rattle.pointers.specs.Steps.{swapped_young, count_moved, young_step, old_step, with_both, change_step, changes_step, move_at, moves_in, moves_of}
+use Rattle.pointers.proofs.Chunks.{pairs, Taken}
 
 -- a step's answer, beside the heap that it leaves
 abbrev left : Heap → Res (Unit {0} × Heap)
@@ -142,30 +143,28 @@ changes-is m ms h = go (swap_both m (h.young, h.old))
     go (refuse q) = refl
 
 -- i were made, and what the rest does from w leads to what all do from w₀
-pub record ChangesLeft (w₀ list bases : List ℕ) (count : ℕ) (w : List ℕ) (i : ℕ) : Type 0 where
-  pub within : i ≤ count
-  pub same : length w ≡ length w₀
+pub record ChangesLeft (w₀ list bases w : List ℕ) (i : ℕ) : Type 0 where
+  pub within : i ≤ pairs list bases
   pub image : Image w (decode w)
-  pub leads : {r : Res (Unit {0})} {v : List ℕ} → Does (changes_step (tab (move_at list bases) i (count - i))) w r v → Does (changes_step (moves_in count list bases)) w₀ r v
+  pub leads : {r : Res (Unit {0})} {v : List ℕ} → Does (changes_step (tab (move_at list bases) i (pairs list bases - i))) w r v → Does (changes_step (moves_of list bases)) w₀ r v
 
-module _ {list bases : List ℕ} {count : ℕ} where
-  pub changes-begin : {w : List ℕ} → Image w (decode w) → ChangesLeft w list bases count w 0
+module _ {list bases : List ℕ} where
+  pub changes-begin : {w : List ℕ} → Image w (decode w) → ChangesLeft w list bases w 0
   unfolding moves_in
-  changes-begin i = record { within = omega arith; same = refl; image = i; leads = λ d. rw (sub-zero count) at d }
+  changes-begin i = record { within = omega arith; image = i; leads = λ d. rw (sub-zero (pairs list bases)) at d }
 
-  module _ {w₀ w : List ℕ} {i : ℕ} (l : ChangesLeft w₀ list bases count w i) where
-    pub changes-end : count ≤ i → Does (changes_step (moves_in count list bases)) w₀ (ok tt) w
+  module _ {w₀ w : List ℕ} {i : ℕ} (l : ChangesLeft w₀ list bases w i) where
+    pub changes-end : i ≡ pairs list bases → Does (changes_step (moves_of list bases)) w₀ (ok tt) w
     unfolding changes_step with_both
-    changes-end e = l.leads (rw (tab-none (move_at list bases) i count e) (record { does = λ h k. (refl, k) }))
+    changes-end e = l.leads (rw (tab-none (move_at list bases) i (pairs list bases) (omega arith)) (record { does = λ h k. (refl, k) }))
 
-    module _ (more : i < count) {v : List ℕ} (a : Result (Unit {0}) Question) (d : Does (change_step (move_at list bases i)) w (done_answer a) v) where
-      pub changes-turn : length v ≡ length w → (x : Unit {0}) → a ≡ Ok x → ChangesLeft w₀ list bases count v (i + 1)
-      changes-turn s x e = record {
-        within = omega arith;
-        same = s ∙ l.same;
-        image = does-image a l.image d x e;
-        leads = λ f. l.leads (rw (tab-cons (move_at list bases) i count more) (does-same (λ h k. changes-is _ _ h) (does-then (λ _. changes_step _) (rw e at d) f)));
+    module _ {x : Ptr × ℕ} (t : Taken list bases i x) {v : List ℕ} (a : Result (Unit {0}) Question) (d : Does (change_step x) w (done_answer a) v) where
+      pub changes-turn : (u : Unit {0}) → a ≡ Ok u → ChangesLeft w₀ list bases v (i + 1)
+      changes-turn u e = record {
+        within = omega (arith, t.more);
+        image = does-image a l.image d u e;
+        leads = λ f. l.leads (rw (tab-cons (move_at list bases) i (pairs list bases) t.more) (does-same (λ h k. changes-is _ _ h) (does-then (λ _. changes_step _) (rw (e, t.move) at d) f)));
       }
 
-      pub changes-refused : (q : Question) → a ≡ Err q → Does (changes_step (moves_in count list bases)) w₀ (refuse (number q)) v
-      changes-refused q e = l.leads (rw (tab-cons (move_at list bases) i count more) (does-same (λ h k. changes-is _ _ h) (does-refused (λ _. changes_step _) (rw e at d))))
+      pub changes-refused : (q : Question) → a ≡ Err q → Does (changes_step (moves_of list bases)) w₀ (refuse (number q)) v
+      changes-refused q e = l.leads (rw (tab-cons (move_at list bases) i (pairs list bases) t.more) (does-same (λ h k. changes-is _ _ h) (does-refused (λ _. changes_step _) (rw (e, t.move) at d))))

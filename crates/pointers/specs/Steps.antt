@@ -1,13 +1,12 @@
 -- The change of moved pointers on a heap, part by part.
-use Rattle.std.specs.Prelude.{List, ◌++◌, map, ℕ, ◌+◌, ◌*◌, get_or, take, drop}
+use Rattle.std.specs.Prelude.{List, ◌++◌, map, ℕ, ◌/◌, min, length, get_or, take, drop}
 use Rattle.model.specs.Res.{Res, ok, ◌>>=◌, each}
 use Rattle.model.specs.Records.{Ptr}
 use Rattle.model.specs.Heap.{Nursery, Elder, Heap}
 use Rattle.model.specs.Collector.{swap_cell, swap_young, swap_old}
 use Rattle.theorems.specs.Does.{with_young, with_old}
 use Rattle.theorems.specs.Apart.{swap_both}
-use Rattle.trace.specs.Words.{tab}
-use Rattle.slots.specs.Slots.{move_of}
+use Rattle.trace.specs.Words.{tab, ptr_at}
 use Rattle.changes.specs.Changes.{times, count_change}
 use Rattle.fields.specs.Fields.{bar_of, on_bar}
 
@@ -39,10 +38,17 @@ change_step m h = swap_both m (h.young, h.old) >>= with_both h
 unfoldable pub changes_step : List (Ptr × ℕ) → Heap → Res (Unit {0} × Heap)
 changes_step ms h = each swap_both ms (h.young, h.old) >>= with_both h
 
--- the moves of the nursery's pointers that the words hold: base and offset in entries of three words, the new bases beside them
+-- the moves of the nursery's pointers that the words hold: members in entries of three words, the new bases beside them
+
+abbrev pub member_move : Ptr → ℕ → Ptr × ℕ
+member_move p new = (record { heap = 0; base = p.base; off = p.off }, new)
 
 unfoldable pub move_at : List ℕ → List ℕ → ℕ → Ptr × ℕ
-move_at list bases i = move_of (record { heap = 0; base = get_or list (3 * i + 1) 0; offset = get_or list (3 * i + 2) 0; new = get_or bases i 0 })
+move_at list bases i = member_move (ptr_at list i) (get_or bases i 0)
 
 unfoldable pub moves_in : ℕ → List ℕ → List ℕ → List (Ptr × ℕ)
 moves_in n list bases = tab (move_at list bases) 0 n
+
+-- all of them, as many as have an entry and a base
+abbrev pub moves_of : List ℕ → List ℕ → List (Ptr × ℕ)
+moves_of list bases = moves_in (min (length list / 3) (length bases)) list bases

@@ -12,14 +12,16 @@ ghost use Rattle.theorems.specs.Fit.{Image};
 ghost use Rattle.theorems.specs.Does.{Does};
 ghost use Rattle.theorems.specs.Apart.{swap_roots};
 ghost use Rattle.question.specs.Question.{done_answer};
+ghost use Rattle.trace.specs.Words.{ptr_of};
 ghost use Rattle.slots.specs.Slots.{move_of};
 ghost use Rattle.fields.specs.Fields.{Turns, on_young};
-ghost use Rattle.pointers.specs.Steps.{swapped_young, count_moved, change_step, changes_step, move_at, moves_in};
+ghost use Rattle.pointers.specs.Steps.{swapped_young, count_moved, change_step, changes_step, member_move, moves_of};
 
 use image::formed::Formed;
 use layout::places;
 use question::Question;
 use slots::Move;
+use trace::Member;
 
 // ---- One pointer: (heap, base, offset) becomes (1, new, 0)
 
@@ -65,48 +67,40 @@ pub fn change(image: &mut [u64], moved: Move) -> Result<(), Question>
     count(image, 1, old, moved)
 }
 
-// ---- All of them: the first count entries of list, with the new base of each
+// ---- All of them: the members are the nursery's, three words each, and each has its new base beside it
 
-// The i-th: the nursery's pointers are moved.
-#[tactic(auto, unfolding(crate::specs::Steps::move_at))]
-fn move_at(list: &[u64], bases: &[u64], i: usize) -> Move
-    requires { (3 * i + 2 < length list.now) × (i < length bases.now) }
-    ensures { move_of result ≡ move_at list.now bases.now i }
+// A member's move.
+fn member_move(m: Member, new: u64) -> Move
+    ensures { move_of result ≡ member_move (ptr_of m) new }
 {
-    let at = 3 * i;
     Move {
         heap: 0,
-        base: list[at + 1],
-        offset: list[at + 2],
-        new: bases[i],
+        base: m.base,
+        offset: m.offset,
+        new,
     }
 }
 
 // In both generations, pointer by pointer; the first refusal ends it.
-pub fn change_all(
-    image: &mut [u64],
-    list: &[u64],
-    bases: &[u64],
-    count: usize,
-) -> Result<(), Question>
-    requires image { Image image.old (decode image.old) }
-    requires count_in_bounds { (3 * count ≤ length list.now) × (count ≤ length bases.now) }
-    ensures { Does (changes_step (moves_in count list.now bases.now)) image.old (done_answer result) image.new }
+pub fn change_all(image: &mut [u64], members: &[u64], bases: &[u64]) -> Result<(), Question>
+    requires { Image image.old (decode image.old) }
+    ensures { Does (changes_step (moves_of members.now bases.now)) image.old (done_answer result) image.new }
 {
-    for i in 0..count {
-        change(image, move_at(list, bases, i))?;
+    let (entries, _) = members.as_chunks::<3>();
+    for (entry, base) in entries.iter().zip(bases) {
+        change(image, member_move(Member::from(*entry), *base))?;
     }
     Ok(())
 }
 
 // In roots.
-pub fn change_roots(roots: &mut [u64], list: &[u64], bases: &[u64], count: usize)
-    requires roots_value { whole_cells roots.old ≡ true }
-    requires count_in_bounds { (3 * count ≤ length list.now) × (count ≤ length bases.now) }
-    ensures { roots.new ≡ cell_words (swap_roots (moves_in count list.now bases.now) (cells_in roots.old)) }
+pub fn change_roots(roots: &mut [u64], members: &[u64], bases: &[u64])
+    requires { whole_cells roots.old ≡ true }
+    ensures { roots.new ≡ cell_words (swap_roots (moves_of members.now bases.now) (cells_in roots.old)) }
 {
     let n = roots.len() / 3;
-    for i in 0..count {
-        slots::swap_cells(roots, n, move_at(list, bases, i));
+    let (entries, _) = members.as_chunks::<3>();
+    for (entry, base) in entries.iter().zip(bases) {
+        slots::swap_cells(roots, n, member_move(Member::from(*entry), *base));
     }
 }

@@ -60,7 +60,7 @@ collected t c = begun c.requires.ready c.if-left-eq1.false c.if-collected.false 
 
 pub collect_and_push_allocation-loop-i-init : goal.collect_and_push_allocation-loop-i-init
 collect_and_push_allocation-loop-i-init t c =
-    let e : c.default-tally.result ≡ record { sweeps = 0; entered = 0 } = search rules in
+    let e : c.default-tally.result ≡ record { collections = 0; visits = 0 } = search rules in
     rw e (pushing-none (collected t (goal.at.collect_and_push_allocation-loop-i-init t c).In_ok-c))
 
 pub collect_and_push_allocation-survivor-base-requires : goal.collect_and_push_allocation-survivor-base-requires
@@ -90,12 +90,12 @@ pub collect_and_push_allocation-note-tally-requires : goal.collect_and_push_allo
 collect_and_push_allocation-note-tally-requires t c =
     let b = collected t (goal.at.collect_and_push_allocation-note-tally-requires t c).In_ok-c in
     let n = note-asks b c.loop-i.invariant c.loop-i-test.true (rw c.survivor-base.ensures at c.alloc_or_collect-in-loop-i.ensures) (search rules) _ c.in_ok-g-2.was in
-    record { roots_in_bounds = n.1; i_in_bounds = n.2; sweeps_bound = (n.3, n.4) }
+    record { roots_in_bounds = n.1; i_in_bounds = n.2; sums_bound = (n.3, n.4) }
 
 pub collect_and_push_allocation-loop-i-preserved : goal.collect_and_push_allocation-loop-i-preserved
 collect_and_push_allocation-loop-i-preserved t c =
     let b = collected t (goal.at.collect_and_push_allocation-loop-i-preserved t c).In_ok-c in
-    pushing-more b c.loop-i.invariant c.loop-i-test.true (rw c.survivor-base.ensures at c.alloc_or_collect-in-loop-i.ensures) (search rules) _ c.in_ok-g-2.was c.note-tally.ensures.scratch_after _ c.note-tally.ensures.sweeps_value
+    pushing-more b c.loop-i.invariant c.loop-i-test.true (rw c.survivor-base.ensures at c.alloc_or_collect-in-loop-i.ensures) (search rules) _ c.in_ok-g-2.was c.note-tally.ensures.scratch_after _ c.note-tally.ensures.sums
 
 pub collect_and_push_allocation-alloc_or_collect-requires-2 : goal.collect_and_push_allocation-alloc_or_collect-requires-2
 collect_and_push_allocation-alloc_or_collect-requires-2 t c =

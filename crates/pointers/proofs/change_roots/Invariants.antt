@@ -1,5 +1,6 @@
+use Rattle.std.proofs.Common.{length}
 use Rattle.pointers.proofs.Roots.{RootsLeft}
 use Rattle.pointers.proofs.change_roots.Given as goal
 
-abbrev pub invariant-loop-i : goal.invariant-loop-i
-invariant-loop-i l = RootsLeft l.initial.roots l.list l.bases l.count l.n l.roots l.i
+abbrev pub invariant-loop-entry : goal.invariant-loop-entry
+invariant-loop-entry l = RootsLeft l.initial.roots l.members l.bases l.n l.roots (length l.yielded)

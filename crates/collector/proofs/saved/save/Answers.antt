@@ -1,5 +1,7 @@
+use Rattle.std.proofs.Common.{ap, ◌∙◌}
+use Rattle.model.specs.Lists.{sum}
 use borrow.Author.Rules.{rules}
-use Rattle.collector.proofs.Saves.{saves}
+use Rattle.collector.proofs.Saves.{saves, saved-to}
 use Rattle.layout.proofs.Tail.{image-says-sized}
 use Rattle.collector.proofs.saved.save.Goals as goal
 
@@ -22,4 +24,4 @@ pub copy_words-requires : goal.copy_words-requires
 copy_words-requires c = search (saves, rules)
 
 pub returns : goal.returns
-returns c = search (saves, rules)
+returns c = saved-to c.args.image.formed c.layout_of-l.ensures _ (c.in_use.ensures ∙ ap sum c.slot_lengths.ensures) _ c.copy_words.ensures

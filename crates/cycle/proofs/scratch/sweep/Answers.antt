@@ -2,8 +2,8 @@ use borrow.Author.Rules.{rules}
 use Rattle.cycle.proofs.Lending.{lists-room, old-list-long, swept-in}
 use Rattle.cycle.proofs.scratch.sweep.Goals as goal
 
-pub old_list_at-at-requires : goal.old_list_at-at-requires
-old_list_at-at-requires c =
+pub of-at-requires : goal.of-at-requires
+of-at-requires c =
     let room = lists-room c.requires.image c.args.roots.now c.args.scratch.now c.requires.roots_in_bounds in
     search rules
 
@@ -25,9 +25,9 @@ slice_bounds-collect-start c =
 pub collect-requires : goal.collect-requires
 collect-requires c = record {
   image = c.requires.image;
-  image_in_bounds = old-list-long c.requires.image c.args.roots.now c.args.scratch.now c.requires.roots_in_bounds c.old_list_at-at.ensures;
+  image_in_bounds = old-list-long c.requires.image c.args.roots.now c.args.scratch.now c.requires.roots_in_bounds c.of-at.ensures.elder;
 }
 
 pub returns : goal.returns
 returns c =
-    swept-in c.requires.image c.args.roots.now c.args.scratch.now c.requires.roots_in_bounds c.old_list_at-at.ensures c.collect.new.list c.collect.ensures
+    swept-in c.requires.image c.args.roots.now c.args.scratch.now c.requires.roots_in_bounds c.of-at.ensures.elder c.collect.new.list c.collect.ensures
