@@ -85,7 +85,8 @@ impl WriteBarrier {
         Ok(self)
     }
 
-    // Counted in if `into`, else out.
+    // Counted in if `into`, else out. A flag and no function passed in: the contract names the step by it, and would need clauses of its
+    // own for a function.
     pub fn count(self, own: u8, into: bool, v: Value) -> Result<Self, Question>
         ensures { answer barrier_of result ≡ step_of into own (value_cell v) (barrier_of self) }
     {

@@ -1,4 +1,5 @@
-// The list of members of a collection, in lent words, for either heap. It is the model's list, in the same order.
+// The list of members of a collection, in lent words, for either heap. It is the model's list, in the same order. What enters a member
+// takes the words and a count beside them: the list grows, and the heap takes no memory but what it is lent.
 #![tactic(auto)]
 
 ghost use Rattle.std.specs.Prelude.{◌≡◌, [], ◌++◌, ℕ, ◌+◌, ◌*◌, ◌/◌, ◌^◌, ◌≤◌, ◌<◌, length, get_or};
@@ -121,7 +122,8 @@ fn enter_roots(roots: &[u64], list: &mut [u64]) -> usize
     n
 }
 
-// The generation that is traced: its heap's number, 0 the nursery and 1 the elder, its lengths and its cells.
+// The generation that is traced: its heap's number, 0 the nursery and 1 the elder, its lengths and its cells. The number is any u64 that
+// is below 2, as in a member: a narrower type would ask more of callers.
 #[derive(Clone, Copy)]
 pub struct Region<'a> {
     pub own: u64,
