@@ -13,9 +13,6 @@ offset_bounds-image-at c = omega (arith, bump-room _ c.header_of-at.ensures.curs
 pub bounds-image-at : goal.bounds-image-at
 bounds-image-at c = omega (arith, bump-room _ c.header_of-at.ensures.cursor c.requires.amount_nonzero.1 c.requires.image)
 
-pub overflow_add-image-2 : goal.overflow_add-image-2
-overflow_add-image-2 c = omega (arith, bump-room _ c.header_of-at.ensures.cursor c.requires.amount_nonzero.1 c.requires.image)
-
 pub bounds-image-4 : goal.bounds-image-4
 bounds-image-4 c = search (header-in c.requires.image, rules)
 

@@ -2,11 +2,8 @@ use mathlib.Core.Path.{ap, ◌∙◌}
 use native.Mathlib.Omega.{arith}
 use Rattle.std.specs.Prelude.{Some}
 use Rattle.image.specs.Places.{model_sizes}
-use Rattle.image.proofs.Bounds.{said-no, said-yes, bounded, image-end}
+use Rattle.image.proofs.Bounds.{said-yes, bounded, image-end}
 use Rattle.image.proofs.sizes.Sizes.image_words.Goals as goal
-
-pub returns-then-not-in_bounds : goal.returns-then-not-in_bounds
-returns-then-not-in_bounds c = rw (said-no c.in_bounds.ensures c.if-not-in_bounds.true)
 
 pub image_length-length-requires : goal.image_length-length-requires
 image_length-length-requires c =
