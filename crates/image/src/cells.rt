@@ -11,15 +11,7 @@ pub fn whole(words: &[u64]) -> bool
     ensures { result ≡ whole_cells words.now }
 {
     let (cells, rest) = words.as_chunks::<3>();
-    rest.is_empty()
-        && cells.iter().all(|c| {
-            Words {
-                tag: c[0],
-                payload: c[1],
-                offset: c[2],
-            }
-            .is_valid()
-        })
+    rest.is_empty() && cells.iter().all(|c| Words::from(*c).is_valid())
 }
 
 // Are the first k of c cells valid, and the rest zero?

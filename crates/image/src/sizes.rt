@@ -74,14 +74,8 @@ impl Sizes {
 pub fn is_sized(image: &[u64]) -> bool
     ensures { result ≡ sized image.now }
 {
-    if image.len() < layout::SIZES {
+    let [n, t, s, c, ..] = *image else {
         return false;
-    }
-    let z = Sizes {
-        n: image[layout::SIZE_N],
-        t: image[layout::SIZE_T],
-        s: image[layout::SIZE_S],
-        c: image[layout::SIZE_C],
     };
-    z.fit(image.len())
+    Sizes { n, t, s, c }.fit(image.len())
 }
