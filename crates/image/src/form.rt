@@ -13,65 +13,71 @@ fn cursor_in(cursor: u64, n: u64) -> bool
     cursor < n || n == 0 && cursor == 0
 }
 
-// The cursor and the three counters.
-fn counters(image: &[u64]) -> bool
-    requires { Sized image.now }
-    ensures { result ≡ counters_good image.now }
-{
-    cursor_in(image[layout::CURSOR], image[layout::SIZE_N])
-        && counts::at_most(
-            counts::MOST,
-            &image[layout::YOUNG_COLLECTIONS..layout::YOUNG_PRESENT],
+// An image that 1 was asked of.
+#[derive(Clone, Copy)]
+pub struct Measured<'a> {
+    pub words: &'a [u64],
+    pub ghost sized: { Sized words.now },
+}
+
+impl Measured<'_> {
+    // The cursor and the three counters.
+    fn counters(self) -> bool
+        ensures { result ≡ counters_good self.entry.words.now }
+    {
+        cursor_in(self.words[layout::CURSOR], self.words[layout::SIZE_N])
+            && counts::at_most(
+                counts::MOST,
+                &self.words[layout::YOUNG_COLLECTIONS..layout::YOUNG_PRESENT],
+            )
+    }
+
+    // Both barriers.
+    fn barriers(self) -> bool
+        ensures { result ≡ barriers_good self.entry.words.now }
+    {
+        counts::barrier(
+            self.words[layout::YOUNG_PRESENT],
+            &self.words[layout::YOUNG_COUNTS..layout::OLD_COUNTS],
+        ) && counts::barrier(
+            self.words[layout::OLD_PRESENT],
+            &self.words[layout::OLD_COUNTS..layout::LENGTHS],
         )
-}
+    }
 
-// Both barriers.
-fn barriers(image: &[u64]) -> bool
-    requires { Sized image.now }
-    ensures { result ≡ barriers_good image.now }
-{
-    counts::barrier(
-        image[layout::YOUNG_PRESENT],
-        &image[layout::YOUNG_COUNTS..layout::OLD_COUNTS],
-    ) && counts::barrier(
-        image[layout::OLD_PRESENT],
-        &image[layout::OLD_COUNTS..layout::LENGTHS],
-    )
-}
+    // The nursery's lengths and cells.
+    fn young(self) -> bool
+        ensures { result ≡ young_good self.entry.words.now }
+    {
+        let n = self.words[layout::SIZE_N] as usize;
+        let s = self.words[layout::SIZE_S] as usize;
+        let behind = layout::slot_lengths(n);
+        let at = layout::young_cells(n, s);
+        let end = layout::old_cells(n, s);
+        lengths::tiled(
+            self.words[layout::CURSOR],
+            &self.words[layout::LENGTHS..behind],
+        ) && cells::whole(&self.words[at..end])
+    }
 
-// The nursery's lengths and cells.
-fn young(image: &[u64]) -> bool
-    requires { Sized image.now }
-    ensures { result ≡ young_good image.now }
-{
-    let n = image[layout::SIZE_N] as usize;
-    let s = image[layout::SIZE_S] as usize;
-    let behind = layout::slot_lengths(n);
-    let at = layout::young_cells(n, s);
-    let end = layout::old_cells(n, s);
-    lengths::tiled(image[layout::CURSOR], &image[layout::LENGTHS..behind])
-        && cells::whole(&image[at..end])
-}
+    // The elder's lengths and cells. A sum of c + 1 stands for any that is too large.
+    fn old(self) -> bool
+        ensures { result ≡ old_good self.entry.words.now }
+    {
+        let n = self.words[layout::SIZE_N] as usize;
+        let s = self.words[layout::SIZE_S] as usize;
+        let c = self.words[layout::SIZE_C];
+        let from = layout::slot_lengths(n);
+        let to = layout::young_cells(n, s);
+        let k = lengths::sum_to(c + 1, &self.words[from..to]);
+        let at = layout::old_cells(n, s);
+        cells::packed(&self.words[at..], c as usize, k as usize)
+    }
 
-// The elder's lengths and cells. A sum of c + 1 stands for any that is too large.
-fn old(image: &[u64]) -> bool
-    requires { Sized image.now }
-    ensures { result ≡ old_good image.now }
-{
-    let n = image[layout::SIZE_N] as usize;
-    let s = image[layout::SIZE_S] as usize;
-    let c = image[layout::SIZE_C];
-    let from = layout::slot_lengths(n);
-    let to = layout::young_cells(n, s);
-    let k = lengths::sum_to(c + 1, &image[from..to]);
-    let at = layout::old_cells(n, s);
-    cells::packed(&image[at..], c as usize, k as usize)
-}
-
-// Question 2.
-pub fn is_formed(image: &[u64]) -> bool
-    requires { Sized image.now }
-    ensures { result ≡ formed image.now }
-{
-    counters(image) && barriers(image) && young(image) && old(image)
+    // Question 2.
+    pub fn is_formed(self) -> bool
+        ensures { result ≡ formed self.entry.words.now }
+    {
+        self.counters() && self.barriers() && self.young() && self.old()
+    }
 }

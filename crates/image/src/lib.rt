@@ -15,6 +15,7 @@ ghost use Rattle.question.specs.Question.{done_answer};
 ghost use Rattle.image.specs.Places.{model_sizes};
 ghost use Rattle.image.specs.Answers.{image_asked, made_outcome};
 
+use form::Measured;
 use question::Question;
 use sizes::Sizes;
 
@@ -25,7 +26,7 @@ pub fn check(image: &[u64]) -> Result<(), Question>
     if !sizes::is_sized(image) {
         return Err(Question::Sizes);
     }
-    if !form::is_formed(image) {
+    if !(Measured { words: image }).is_formed() {
         return Err(Question::Form);
     }
     Ok(())

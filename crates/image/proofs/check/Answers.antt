@@ -6,8 +6,8 @@ pub returns-then-not-is_sized : goal.returns-then-not-is_sized
 unfolding image_asked
 returns-then-not-is_sized c = rw (said-no c.is_sized.ensures c.if-not-is_sized.true)
 
-pub is_formed-requires : goal.is_formed-requires
-is_formed-requires c = is-sized _ (said-yes c.is_sized.ensures c.if-not-is_sized.false)
+pub invariant_of-is_formed : goal.invariant_of-is_formed
+invariant_of-is_formed c = record { sized = is-sized _ (said-yes c.is_sized.ensures c.if-not-is_sized.false) }
 
 pub returns-then-not-is_formed : goal.returns-then-not-is_formed
 unfolding image_asked
