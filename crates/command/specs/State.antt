@@ -5,6 +5,7 @@ use Rattle.model.specs.Heap.{Heap}
 use Rattle.model.specs.Image.{decode}
 use Rattle.model.specs.Run.{State as ModelState, program_bounds}
 use Rattle.theorems.specs.Fit.{Image}
+use Rattle.theorems.specs.Program.{program_words, program_scratch}
 use Rattle.registers.specs.declared.Registers.{Registers}
 use Rattle.registers.specs.Cells.{cells_of_registers, Good}
 use Rattle.command.specs.declared.State.{State}
@@ -31,6 +32,10 @@ holding k r = record { words = k; registers = r }
 -- before the first `new`
 abbrev pub heapless : Registers → State
 heapless r = holding 0 r
+
+-- a buffer with room for any heap of the program, and scratch for its every alloc
+abbrev pub Roomy : List ℕ → List ℕ → Type 0
+Roomy buffer scratch = (program_words ≤ length buffer) × (program_scratch ≤ length scratch)
 
 pub record Ready (buffer : List ℕ) (s : State) : Type 0 where
   pub within : s.words ≤ length buffer

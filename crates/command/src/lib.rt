@@ -11,10 +11,10 @@ ghost use Rattle.model.specs.Command.{new, alloc, set, load, store, report as re
 ghost use Rattle.model.specs.Run.{program_bounds};
 ghost use Rattle.theorems.specs.Program.{program_words, program_scratch};
 ghost use Rattle.value.specs.Value.{value_cell};
-ghost use Rattle.image.specs.Places.{sizes};
+ghost use Rattle.image.specs.Places.{model_sizes};
 ghost use Rattle.registers.specs.Cells.{Good};
 ghost use Rattle.reader.specs.Answer.{model_command};
-ghost use Rattle.command.specs.State.{holding, heapless, Held, Ready};
+ghost use Rattle.command.specs.State.{holding, heapless, Held, Roomy, Ready};
 ghost use Rattle.command.specs.Steps.{target_answer, target_in, is_new, Acts, Performs, made_answer, made_words};
 
 pub use answers::Answer;
@@ -35,21 +35,10 @@ pub struct State {
 // ---- Registers alone
 
 // 3 asks of the three words.
-fn set_register(
-    registers: &mut Registers,
-    register: usize,
-    tag: u64,
-    payload: u64,
-    offset: u64,
-) -> Result<Answer, Question>
+fn set_register(registers: &mut Registers, register: usize, w: Words) -> Result<Answer, Question>
     requires { (register < 16) × Good registers.old }
-    ensures { (w : List ℕ) → Held w → Acts (set register tag payload offset) w registers.old result w registers.new }
+    ensures { (image : List ℕ) → Held image → Acts (set register w.tag w.payload w.offset) image registers.old result image registers.new }
 {
-    let w = Words {
-        tag,
-        payload,
-        offset,
-    };
     let v = Value::try_from(w)?;
     registers.set(register, v);
     Ok(Answer::Set)
@@ -85,7 +74,7 @@ fn alloc_in(
     if image.is_empty() {
         return Err(Question::Heap);
     }
-    let mut roots = registers.words();
+    let mut roots = <[u64; 48]>::from(&*registers);
     let a = collector::alloc_formed(image, &mut roots, scratch, amount)?;
     *registers = Registers::from_words(&roots);
     registers.set(register, Value::Pointer(a.pointer));
@@ -156,30 +145,20 @@ fn report_in(image: &mut [u64]) -> Result<Answer, Question>
 
 // ---- New
 
-fn is_bounded(n: u64, t: u64, s: u64, c: u64) -> bool
-    ensures { result ≡ program_bounds (sizes n t s c) }
+fn is_bounded(z: Sizes) -> bool
+    ensures { result ≡ program_bounds (model_sizes z) }
 {
-    if 128 < n {
-        return false;
-    }
-    if 8192 < t {
-        return false;
-    }
-    if 128 < s {
-        return false;
-    }
-    c <= 512
+    z.n <= 128 && z.t <= 8192 && z.s <= 128 && z.c <= 512
 }
 
 // The first heap, with its words: 14 got a yes. 1 asks of the program's limits.
-fn make(buffer: &mut [u64], n: u64, t: u64, s: u64, c: u64) -> Result<usize, Question>
+fn make(buffer: &mut [u64], z: Sizes) -> Result<usize, Question>
     requires { program_words ≤ length buffer.old }
-    ensures { (registers : Registers) → Good registers → Performs (new (sizes n t s c)) buffer.old (heapless registers) (made_answer result) buffer.new (holding (made_words result) registers) }
+    ensures { (registers : Registers) → Good registers → Performs (new (model_sizes z)) buffer.old (heapless registers) (made_answer result) buffer.new (holding (made_words result) registers) }
 {
-    if !is_bounded(n, t, s, c) {
+    if !is_bounded(z) {
         return Err(Question::Sizes);
     }
-    let z = Sizes { n, t, s, c };
     let words = z.image_words().unwrap() as usize;
     image::fresh(&mut buffer[..words], z)?;
     Ok(words)
@@ -214,7 +193,14 @@ fn act(
             tag,
             payload,
             offset,
-        } => set_register(registers, register as usize, tag as u64, payload, offset),
+        } => {
+            let w = Words {
+                tag: tag as u64,
+                payload,
+                offset,
+            };
+            set_register(registers, register as usize, w)
+        }
         Command::Load(a) => load_in(image, registers, a),
         Command::Store(a) => store_in(image, registers, a),
         Command::Report => report_in(image),
@@ -231,13 +217,19 @@ impl State {
         command: Command,
     ) -> Result<Answer, Question>
         requires ready { Ready buffer.old self.old }
-        requires program_words_in_bounds { (program_words ≤ length buffer.old) × (program_scratch ≤ length scratch.old) }
+        requires program_words_in_bounds { Roomy buffer.old scratch.old }
         requires command_value { all_at_most 15 (registers_of (model_command command)) ≡ true }
         ensures { Performs (model_command command) buffer.old self.old result buffer.new self.new }
     {
         if self.words == 0 {
             if let Command::New { n, t, s, c } = command {
-                self.words = make(buffer, n as u64, t as u64, s as u64, c as u64)?;
+                let z = Sizes {
+                    n: n as u64,
+                    t: t as u64,
+                    s: s as u64,
+                    c: c as u64,
+                };
+                self.words = make(buffer, z)?;
                 return Ok(Answer::New);
             }
         }

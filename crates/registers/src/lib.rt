@@ -39,22 +39,7 @@ impl Registers {
         self.cells[r] = v;
     }
 
-    // The roots: three words a register.
-    pub fn words(&self) -> [u64; 48]
-        ensures words { result ≡ cell_words (cells_of_registers self.now) }
-        ensures whole { Good self.now → whole_cells result ≡ true }
-    {
-        let mut w = [0u64; 48];
-        for i in 0..Registers::COUNT {
-            let x = Words::from(self.get(i));
-            w[3 * i] = x.tag;
-            w[3 * i + 1] = x.payload;
-            w[3 * i + 2] = x.offset;
-        }
-        w
-    }
-
-    // The registers of words that are valid cells.
+    // The registers of words that are valid cells. `From` can't ask for that, and `TryFrom` would refuse what never comes.
     pub fn from_words(w: &[u64; 48]) -> Self
         requires { whole_cells w.now ≡ true }
         ensures cells { cells_of_registers result ≡ cells_in w.now }
@@ -62,13 +47,25 @@ impl Registers {
     {
         let mut s = Registers::new();
         for i in 0..Registers::COUNT {
-            let cell = Words {
-                tag: w[3 * i],
-                payload: w[3 * i + 1],
-                offset: w[3 * i + 2],
-            };
-            s.set(i, cell.value());
+            s.set(i, Words::at(w, i).value());
         }
         s
+    }
+}
+
+// The roots: three words a register. They are stored one by one, since the library does not say what an array is once the chunks that
+// `as_chunks_mut` lends of it have ended.
+impl From<&Registers> for [u64; 48] {
+    ghost from_gives = { λ s w. (w ≡ cell_words (cells_of_registers s.now)) × (Good s.now → whole_cells w ≡ true) };
+
+    fn from(s: &Registers) -> [u64; 48] {
+        let mut w = [0u64; 48];
+        for i in 0..Registers::COUNT {
+            let x = Words::from(s.get(i));
+            w[3 * i] = x.tag;
+            w[3 * i + 1] = x.payload;
+            w[3 * i + 2] = x.offset;
+        }
+        w
     }
 }

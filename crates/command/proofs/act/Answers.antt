@@ -1,8 +1,5 @@
 use mathlib.Core.Path.{refl}
-use borrow.Author.Rules.{rules}
 use mathlib.Core.List.{[], ◌∷◌}
-use mir.Syntax.{w64}
-use mir.ValLaws.{to_z-of_z}
 use Rattle.model.specs.Command.{registers_of}
 use Rattle.command.proofs.Performing.{first_below, new-refused}
 use Rattle.command.proofs.act.Goals as goal
@@ -46,22 +43,3 @@ take_figure-requires c =
 pub returns-in-New : goal.returns-in-New
 returns-in-New c =
     rw c.in-New.is (new-refused _ c.requires.held.0 c.requires.held.1 (c.requires.image_nonzero (rw c.in-New.is)) (refl, refl))
-
-pub returns-in-Alloc : goal.returns-in-Alloc
-returns-in-Alloc c =
-    rw c.in-Alloc.is (rw (to_z-of_z w64 c.in-Alloc.amount (search rules)) at c.alloc_in.ensures)
-
-pub returns-in-Set : goal.returns-in-Set
-returns-in-Set c = rw c.in-Set.is (c.set_register.ensures _ c.requires.held.0)
-
-pub returns-in-Load : goal.returns-in-Load
-returns-in-Load c = rw c.in-Load.is c.load_in.ensures
-
-pub returns-in-Store : goal.returns-in-Store
-returns-in-Store c = rw c.in-Store.is c.store_in.ensures
-
-pub returns-in-Report : goal.returns-in-Report
-returns-in-Report c = rw c.in-Report.is (c.report_in.ensures _ c.requires.held.1)
-
-pub returns-in-Figure : goal.returns-in-Figure
-returns-in-Figure c = rw c.in-Figure.is (c.take_figure.ensures _ c.requires.held.0)

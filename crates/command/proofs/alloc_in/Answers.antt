@@ -7,36 +7,30 @@ use Rattle.command.proofs.Allocating.{alloc-heapless, Lent, alloc-refused, roots
 use borrow.Author.Rules.{rules}
 use mathlib.Core.Path.{refl}
 use Rattle.command.proofs.alloc_in.Goals as goal
-use Rattle.command.proofs.alloc_in.Goals.{After-words-roots}
+use Rattle.command.proofs.alloc_in.Goals.{After-from-roots}
 
-lent : (c : After-words-roots)
-    → Lent c.args.image.now c.args.registers.now c.words-roots.result (length c.args.scratch.now)
+lent : (c : After-from-roots)
+    → Lent c.args.image.now c.args.registers.now c.from-roots.result (length c.args.scratch.now)
 lent c =
-    record { held = c.requires.held; there = some_there _ c.is_empty.ensures c.if-is_empty.false; good = c.requires.register_bound.1; words = c.words-roots.ensures.words; long = search rules; room = c.requires.program_scratch_in_bounds }
+    record { held = c.requires.held; there = some_there _ c.is_empty.ensures c.if-is_empty.false; good = c.requires.register_bound.1; words = c.from-roots.ensures.0; long = search rules; room = c.requires.program_scratch_in_bounds }
 
 pub returns-then-is_empty : goal.returns-then-is_empty
 returns-then-is_empty c =
     alloc-heapless c.args.register _ c.requires.held c.requires.register_bound.1 (none_there _ c.is_empty.ensures c.if-is_empty.true) (refl, refl)
 
-pub alloc_formed-requires : goal.alloc_formed-requires
-alloc_formed-requires c = c.requires.held.formed (some_there _ c.is_empty.ensures c.if-is_empty.false)
-
 pub from_words-requires : goal.from_words-requires
 from_words-requires c =
     let asked = rw (to_z-of_z w64 c.args.amount c.ranges.amount) at c.alloc_formed.ensures in
-    roots-whole (lent (goal.at.from_words-requires c).After-words-roots) _ _ _ _ asked c.in_ok-a.was
-
-pub set-requires : goal.set-requires
-set-requires c = c.requires.register_bound.0
+    roots-whole (lent (goal.at.from_words-requires c).After-from-roots) _ _ _ _ asked c.in_ok-a.was
 
 pub returns : goal.returns
 returns c =
     let asked = rw (to_z-of_z w64 c.args.amount c.ranges.amount) at c.alloc_formed.ensures in
     let at = c.in_ok-a.was in
     -- the walk tells of the answer's fields that the offset is an i64
-    alloc-acts (lent (goal.at.returns c).After-words-roots) _ _ _ _ asked at c.from_words.result c.set.new.self _ c.from_words.ensures.cells c.from_words.ensures.good (search rules) c.set.ensures
+    alloc-acts (lent (goal.at.returns c).After-from-roots) _ _ _ _ asked at c.from_words.result c.set.new.self _ c.from_words.ensures.cells c.from_words.ensures.good (search rules) c.set.ensures
 
 pub returns-in_err-a : goal.returns-in_err-a
 returns-in_err-a c =
     let asked = rw (to_z-of_z w64 c.args.amount c.ranges.amount) at c.alloc_formed.ensures in
-    alloc-refused (lent (goal.at.returns-in_err-a c).After-words-roots) _ _ _ _ asked _ c.in_err-a.was (refused_as c.from_residual.result _ c.from_residual.ensures.1, refl)
+    alloc-refused (lent (goal.at.returns-in_err-a c).After-from-roots) _ _ _ _ asked _ c.in_err-a.was (refused_as c.from_residual.result _ c.from_residual.ensures.1, refl)

@@ -7,9 +7,6 @@ use Rattle.command.proofs.report_in.Goals as goal
 pub returns-then-is_empty : goal.returns-then-is_empty
 returns-then-is_empty c r g = report-heapless c.requires.held g (none_there _ c.is_empty.ensures c.if-is_empty.true) (refl, refl)
 
-pub report_lent_formed-requires : goal.report_lent_formed-requires
-report_lent_formed-requires c = c.requires.held.formed (some_there _ c.is_empty.ensures c.if-is_empty.false)
-
 pub returns : goal.returns
 returns c r g =
     report-acts c.requires.held (some_there _ c.is_empty.ensures c.if-is_empty.false) g _ _ c.report_lent_formed.ensures c.in_ok-s.was

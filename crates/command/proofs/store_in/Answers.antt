@@ -23,9 +23,6 @@ pub returns-then-is_empty : goal.returns-then-is_empty
 returns-then-is_empty c =
     store-heapless _ _ _ c.requires.held c.requires.register_bound.2 (none_there _ c.is_empty.ensures c.if-is_empty.true) (refl, refl)
 
-pub write_formed-requires : goal.write_formed-requires
-write_formed-requires c = c.requires.held.formed (there (goal.at.write_formed-requires c).After-target_of)
-
 pub returns : goal.returns
 returns c =
     let u = c.get in

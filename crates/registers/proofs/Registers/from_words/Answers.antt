@@ -1,7 +1,7 @@
 use borrow.Author.Rules.{rules}
 use mathlib.Core.Path.{◌≡◌}
 use lib.ListN.{length}
-use Rattle.registers.proofs.Roots.{loaded-none, loaded-all, valid-here, loaded-more}
+use Rattle.registers.proofs.Roots.{loaded-all, valid-here, loaded-more}
 use Rattle.registers.proofs.Registers.from_words.Goals as goal
 use Rattle.registers.proofs.Registers.from_words.Goals.{Start}
 
@@ -9,15 +9,12 @@ use Rattle.registers.proofs.Registers.from_words.Goals.{Start}
 long : (s : Start) → length s.args.w.now ≡ 48
 long s = search rules
 
-pub loop-i-init : goal.loop-i-init
-loop-i-init c = loaded-none c.args.w.now (long (goal.at.loop-i-init c).Start) c.requires c.new-s.ensures.cells c.new-s.ensures.good
-
 pub value-requires : goal.value-requires
-value-requires c = valid-here _ (long (goal.at.value-requires c).Start) c.loop-i.invariant c.loop-i-test.true
+value-requires c = rw c.at.ensures (valid-here _ (long (goal.at.value-requires c).Start) c.loop-i.invariant c.loop-i-test.true)
 
 pub loop-i-preserved : goal.loop-i-preserved
 loop-i-preserved c =
-    loaded-more _ (long (goal.at.loop-i-preserved c).Start) c.loop-i.invariant c.loop-i-test.true c.value.ensures c.set.new.self c.set.ensures
+    loaded-more _ (long (goal.at.loop-i-preserved c).Start) c.loop-i.invariant c.loop-i-test.true (rw c.at.ensures at c.value.ensures) c.set.new.self c.set.ensures
 
 pub returns : goal.returns
 returns c = record {
