@@ -18,7 +18,7 @@ use Rattle.std.proofs.Common.{Option as CodeOption, Some, None, unwrap_or, Resul
 use Rattle.question.specs.declared.Question.{Question}
 use Rattle.question.specs.declared.Question.TheVariants.{Command as Malformed}
 use Rattle.reader.specs.declared.Command.{Command as Given}
-use Rattle.reader.specs.Answer.{next_answer, placed_answer, placed, next_at}
+use Rattle.reader.specs.Answer.{next_answer, placed, next_at}
 use Rattle.reader.specs.Progress.{Passed}
 use Rattle.reader.proofs.Progress.{passed, left-command, left-malformed}
 use Rattle.listing.specs.Left.{too_long, by_length, stands_at, commands_from}
@@ -87,7 +87,7 @@ module _ (file : List ℕ) (at : ℕ) (h : at < length file) where
   pub stood : {x : Res (Option (Command × ℕ))} → x ≡ stands_at file at → Stands file at x
   stood e = rw e stands
 
-  pub never_none : (x : CodeOption (Result (Given × ℕ) Question)) → next_answer x ≡ stands_at file at → placed_answer (unwrap_or x (Err Malformed)) ≡ stands_at file at
+  pub never_none : (x : CodeOption (Result (Given × ℕ) Question)) → next_answer x ≡ stands_at file at → next_answer (Some (unwrap_or x (Err Malformed))) ≡ stands_at file at
   never_none (Some x) e = e
   never_none None e = absurd (stood e)
 

@@ -47,13 +47,9 @@ operand_count opcode.Figure = 1
 abbrev pub Reads : ℕ → Result Opcode Question → Type 0
 Reads b r = MatchResult r (λ o. b ≡ byte_of o) (λ q. refuse (number q) ≡ operand_bytes opcodes b)
 
--- a command and the place behind it
-abbrev pub placed_answer : Result (Command × ℕ) Question → Res (Option (ModelCommand × ℕ))
-placed_answer r = answer (λ x. some (model_command x.0, x.1)) r
-
--- the same, or none at the end
+-- a command and the place behind it, or none at the end
 abbrev pub next_answer : CodeOption (Result (Command × ℕ) Question) → Res (Option (ModelCommand × ℕ))
-next_answer (Some r) = placed_answer r
+next_answer (Some r) = answer (λ x. some (model_command x.0, x.1)) r
 next_answer None = ok none
 
 -- the same file, at another place

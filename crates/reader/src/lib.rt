@@ -1,12 +1,12 @@
 // Commands read from the bytes of a command file: a byte for the command, then its operands, little-endian.
 #![tactic(auto)]
 
-ghost use Rattle.std.specs.Prelude.{◌≡◌, ◌+◌, ◌<◌, ◌≤◌, length};
+ghost use Rattle.std.specs.Prelude.{◌≡◌, ◌+◌, ◌<◌, ◌≤◌, length, Some};
 ghost use Rattle.std.specs.Int.{w64};
 ghost use Rattle.std.proofs.Common.{of_z};
 ghost use Rattle.model.specs.Lists.{all_at_most};
 ghost use Rattle.model.specs.Command.{field, command_of, registers_of};
-ghost use Rattle.reader.specs.Answer.{model_command, byte_of, operand_count, Reads, next_answer, next_at, placed_answer, Passes};
+ghost use Rattle.reader.specs.Answer.{model_command, byte_of, operand_count, Reads, next_answer, next_at, Passes};
 
 use question::Question;
 
@@ -174,7 +174,7 @@ fn registers_hold(command: Command) -> bool
 // The command at a place, and the place behind it.
 fn command_at(file: &[u8], at: usize) -> Result<(Command, usize), Question>
     requires { at < length file.now }
-    ensures { placed_answer result ≡ next_at file.now at }
+    ensures { next_answer (Some result) ≡ next_at file.now at }
 {
     let from = at + 1;
     let opcode = Opcode::try_from(file[at])?;

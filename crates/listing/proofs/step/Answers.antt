@@ -1,13 +1,14 @@
 use mathlib.Core.Path.{◌≡◌}
+use Rattle.std.specs.Prelude.{Some}
 use borrow.Author.Rules.{rules}
-use Rattle.reader.specs.Answer.{placed_answer}
+use Rattle.reader.specs.Answer.{next_answer}
 use Rattle.listing.specs.Left.{stands_at}
 use Rattle.listing.proofs.Standing.{never_none, registers-below-16}
 use Rattle.listing.proofs.Advancing.{step-command, step-malformed}
 use Rattle.listing.proofs.step.Goals as goal
 use Rattle.listing.proofs.step.Goals.{After-unwrap_or}
 
-stood_there : (c : After-unwrap_or) → placed_answer c.unwrap_or.result ≡ stands_at c.args.file.now c.args.run.now.at
+stood_there : (c : After-unwrap_or) → next_answer (Some c.unwrap_or.result) ≡ stands_at c.args.file.now c.args.run.now.at
 stood_there c = rw c.unwrap_or.ensures (never_none _ _ c.requires.at_in_bounds _ c.stands_at.ensures)
 
 pub perform-requires : goal.perform-requires
