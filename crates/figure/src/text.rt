@@ -1,4 +1,5 @@
-// Numbers as text. Each function writes at a place of `out`, leaves the rest as it was, and returns the place behind its text.
+// Numbers as text. Each function writes at a place of `out`, leaves the rest as it was, and returns the place behind its text. By
+// `Display` a text could fail, which here it can't: the contract of `fmt` does not say that it succeeds where the writer does (tried).
 ghost use Rattle.std.specs.Prelude.{◌≡◌, cond, [], ◌∷◌, ◌+◌, ◌%◌, ◌<◌, ◌≤◌, length};
 ghost use Rattle.std.specs.Int.{w64};
 ghost use Rattle.std.proofs.Common.{of_z};

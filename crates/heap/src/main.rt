@@ -45,7 +45,8 @@ fn read_more(rt: &HostRuntime, file: &mut [u8], len: usize) -> io::Result<Input>
     })
 }
 
-// To the end of the input, or until `file` is full. A pipe hands over a part at a time.
+// To the end of the input, or until `file` is full: no range and no iterator says when. A pipe hands over a part at a time, and each
+// part goes into what is left of the file, lent anew.
 fn read_all(rt: &HostRuntime, file: &mut [u8]) -> io::Result<Input>
     requires { longest_file < length file.old }
     ensures { IfOk result (λ input. Stops file.new input.len input.came) }
@@ -68,7 +69,8 @@ fn write_more(rt: &HostRuntime, bytes: &[u8], len: &mut usize) -> io::Result<()>
     rt.stdout().write_all(bytes)
 }
 
-// The file's listing, by the bufferful; how many bytes were handed on, also when a write failed.
+// The file's listing, by the bufferful; how many bytes were handed on, also when a write failed. It ends where the run stands at the
+// file's end; an iterator of bufferfuls could not lend `out` anew at each turn.
 fn print_all(rt: &HostRuntime, file: &[u8], len: &mut usize) -> io::Result<()>
     requires { length file.now ≤ longest_file + 1 }
     ensures { MatchResult result (λ _. Prints file.now len.new true) (λ _. Prints file.now len.new false) }

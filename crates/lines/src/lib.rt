@@ -1,5 +1,5 @@
 // The listing's lines: a command's number, its answer's text, LF. Each function writes at a place of `out`, leaves the rest as
-// it was, and returns the place behind its text.
+// it was, and returns the place behind its text; no `Display`, as in figure's text: a line can't fail.
 #![tactic(auto)]
 
 ghost use Rattle.std.specs.Prelude.{◌≡◌, ◌+◌, ◌*◌, ◌≤◌, length, Ok};

@@ -3,8 +3,8 @@
 
 ghost use Rattle.std.specs.Prelude.{◌≡◌, List, ℕ, ◌+◌, ◌<◌, ◌≤◌, length};
 ghost use Rattle.model.specs.Listing.{listing};
-ghost use Rattle.theorems.specs.Program.{program_words, program_scratch};
 ghost use Rattle.reader.specs.Answer.{next_answer};
+ghost use Rattle.command.specs.State.{Roomy};
 ghost use Rattle.lines.specs.Longest.{longest_line};
 ghost use Rattle.listing.specs.Left.{stands_at, left_of, Going, Answers, Advances, Fills};
 
@@ -54,7 +54,8 @@ fn stands_at(file: &[u8], at: usize) -> Option<Result<(Command, usize), Question
     None
 }
 
-// One command: its answer, and the run behind it.
+// One command: its answer, and the run behind it. File, buffer and scratch go on as they were lent: a struct of them would be taken
+// apart here, and its contract would say of each part what it comes back as.
 fn step(
     file: &[u8],
     buffer: &mut [u64],
@@ -63,7 +64,7 @@ fn step(
 ) -> Result<Answer, Question>
     requires going { Going file.now buffer.old run.old }
     requires at_in_bounds { run.old.at < length file.now }
-    requires program_words_in_bounds { (program_words ≤ length buffer.old) × (program_scratch ≤ length scratch.old) }
+    requires program_words_in_bounds { Roomy buffer.old scratch.old }
     ensures { Answers file.now buffer.old run.old result buffer.new run.new }
 {
     run.number += 1;
@@ -90,7 +91,7 @@ fn advance(
 ) -> usize
     requires going { Going file.now buffer.old run.old }
     requires at_in_bounds { run.old.at < length file.now }
-    requires program_words_in_bounds { (program_words ≤ length buffer.old) × (program_scratch ≤ length scratch.old) }
+    requires program_words_in_bounds { Roomy buffer.old scratch.old }
     requires longest_line_in_bounds { used + longest_line ≤ length out.old }
     ensures { Advances file.now buffer.old run.old out.old used buffer.new run.new out.new result }
 {
@@ -99,7 +100,8 @@ fn advance(
     lines::line(number, answer, out, used)
 }
 
-// As many lines as `out` surely has room for; the place behind them.
+// As many lines as `out` surely has room for; the place behind them. It ends there, or at the file's end: no range says so, and an
+// iterator could not lend buffer, scratch and `out` anew at each turn.
 pub fn fill(
     file: &[u8],
     buffer: &mut [u64],
@@ -108,7 +110,7 @@ pub fn fill(
     out: &mut [u8],
 ) -> usize
     requires going { Going file.now buffer.old run.old }
-    requires program_words_in_bounds { (program_words ≤ length buffer.old) × (program_scratch ≤ length scratch.old) }
+    requires program_words_in_bounds { Roomy buffer.old scratch.old }
     requires longest_line_in_bounds { longest_line ≤ length out.old }
     ensures { Fills file.now buffer.old run.old buffer.new run.new out.new result }
 {

@@ -1,4 +1,3 @@
-use Rattle.heap.proofs.Printing.{taken}
 use native.Mathlib.Omega.{arith}
 use lib.Seq.{length-take-le}
 use Rattle.model.specs.Listing.{longest_file}
@@ -8,9 +7,6 @@ use Rattle.heap.proofs.main.Goals as goal
 pub read_all-requires : goal.read_all-requires
 unfolding longest_file
 read_all-requires c = search rules
-
-pub slice_bounds-print_all-end : goal.slice_bounds-print_all-end
-slice_bounds-print_all-end c = search (taken, rules)
 
 pub print_all-requires : goal.print_all-requires
 unfolding longest_file

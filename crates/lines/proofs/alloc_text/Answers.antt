@@ -5,6 +5,7 @@ use lib.ListN.{length}
 use mir.Syntax.{w64}
 use mir.Val.{to_z, of_z}
 use mir.ValLaws.{to_z-of_z}
+use borrow.Author.Rules.{rules}
 use Rattle.model.specs.Listing.{alloc_word, line_text}
 use Rattle.figure.proofs.Writes.{wrote-both}
 use Rattle.lines.specs.Longest.{longest_spaced}
@@ -33,7 +34,6 @@ each_spaced-requires c =
 pub returns : goal.returns
 unfolding line_text alloc_word
 returns c =
-    let name = c.before.before.before.before.before.before.before.before.before.before.before.before.before.before.before.before.before.before.before.before.before.before in
-    let x = name.args.a.pointer.offset in
-    let offset = rw (to_z-of_z w64 x (search c.struct_told-1.given)) at c.signed-counts.ensures in
-    wrote-both (wrote-both (wrote-both name.word-place.ensures c.each_spaced-sign.ensures) (wrote-both c.byte-offset.ensures offset)) c.each_spaced.ensures
+    let x = c.args.a.pointer.offset in
+    let offset = rw (to_z-of_z w64 x (search rules)) at c.signed-counts.ensures in
+    wrote-both (wrote-both (wrote-both c.word-place.ensures c.each_spaced-sign.ensures) (wrote-both c.byte-offset.ensures offset)) c.each_spaced.ensures
