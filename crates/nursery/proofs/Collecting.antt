@@ -1,8 +1,8 @@
 -- A collection, by the three questions that it asks.
 use mathlib.Core.Path.{◌≡◌, sym, ap, ◌∙◌}
 use mathlib.Core.Bool.{Bool, true, false}
-use mathlib.Core.List.{List}
-use Prim.Native.Nat.{ℕ, ◌+◌, ◌-◌, ◌*◌, ◌≤◌, ◌<◌}
+use mathlib.Core.List.{List, ◌++◌}
+use Prim.Native.Nat.{ℕ, ◌+◌, ◌-◌, ◌*◌, ◌/◌, ◌≤◌, ◌<◌}
 use native.Mathlib.Omega.{arith}
 use lib.Dec.{ltb}
 use lib.ListN.{length, take}
@@ -16,11 +16,18 @@ use Rattle.theorems.specs.Does.{Does}
 use Rattle.trace.specs.Words.{members, listed}
 use Rattle.trace.proofs.Chunks.{listed-cut}
 use Rattle.trace.proofs.Entries.{length-members}
+use Rattle.survivors.proofs.Entries.{members-front}
 use Rattle.fields.specs.Fields.{Reads, Turns, on_young}
 use Rattle.fields.proofs.Parts.{most-is}
 use Rattle.nursery.specs.Steps.{Listed, collected_answer, collect_step}
 use Rattle.question.specs.declared.Question.TheVariants.{Allocation, Bound}
 use Rattle.std.proofs.Common.{Ok, Err}
+
+-- the survivors v, at the front of what is lent
+pub in-front : (kept visits : ℕ) (v list rest : List ℕ) → 3 * visits ≤ length list → kept ≤ length (take (3 * visits) list) / 3 → length v ≡ length (take (3 * visits) list)
+    → members kept v ≡ survivors (listed (take (3 * visits) list)) → members kept (v ++ rest) ≡ survivors (members visits list)
+in-front kept visits v list rest fits few long are =
+    members-front kept v rest (omega (arith, few, long)) ∙ are ∙ ap survivors (listed-cut visits list fits)
 
 module _ (roots : List Cell) (ms : List ℕ) {w : List ℕ} {collections : ℕ} (counted : Reads (λ h. h.young.colls) w collections) where
   -- the collections counter is full

@@ -70,7 +70,7 @@ pub fn collect(
         return Err(Question::Bound);
     }
     let entered = members(Formed { words: image }, roots, masks, list);
-    let survivors = survivors::survivors(list, entered);
+    let survivors = survivors::survivors(&mut list[..3 * entered]);
     if !all_allocated(Formed { words: image }, &list[..3 * survivors]) {
         return Err(Question::Allocation);
     }
