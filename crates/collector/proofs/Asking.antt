@@ -10,7 +10,7 @@ use lib.IntN.{ℤ, pos, negsuc, nat_abs}
 use lib.ListN.{length}
 use lib.Signed.{le_z, non_neg}
 use mir.Syntax.{w64}
-use mir.Val.{Fits, SFits, to_z, of_z}
+use mir.Val.{SFits, to_z, of_z}
 use mir.ValLaws.{to_z-of_z}
 use borrow.Author.Tests.{leb-true, leb-false, lt-ltb, le-ltb, le-leb, lt-leb}
 use Rattle.model.specs.Lists.{sum}
@@ -95,9 +95,6 @@ module _ (x : ℤ) (f : SFits w64 x) (h : le_z (to_z w64 (of_z w64 x)) (pos 0) �
 
   pub amount-is : Amount x cells
   amount-is = rw (to_z-of_z w64 x f) (above_zero x (rw (to_z-of_z w64 x f) at h) f).1
-
-  pub amount-cast : T (non_neg (to_z w64 (of_z w64 x))) × Fits w64 cells
-  amount-cast = (rw (to_z-of_z w64 x f) (above_zero x (rw (to_z-of_z w64 x f) at h) f).0, record { fits = omega (arith, amount-is.below) })
 
 -- an amount that stays young
 pub stays-young : {w v : List ℕ} {b a : ℕ} → Image w (decode w) → Reads (λ h. h.young.cursor) w b → Turns (on_young (λ y. bump y a)) w v

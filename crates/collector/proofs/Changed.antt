@@ -22,7 +22,7 @@ use Rattle.trace.proofs.Entries.{length-tab}
 use Rattle.trace.proofs.Places.{in-length}
 use Rattle.fields.specs.Fields.{Reads}
 use Rattle.pointers.specs.Steps.{moves_in, moves_of, move_at, changes_step}
-use Rattle.cycle.specs.Scratch.{bases_at, old_list_at, PartsOf, parts_in, Front}
+use Rattle.cycle.specs.Scratch.{bases_at, PartsOf, parts_in, Front}
 use Rattle.cycle.specs.declared.scratch.Parts.{Parts}
 use Rattle.cycle.specs.Turns.{Turn, push_turn}
 use Rattle.cycle.specs.Outcomes.{Ready, Ran, outcome_answer, gave_turn, kept_to}
@@ -48,10 +48,6 @@ module _ (w roots s : List ℕ) {k : ℕ} (room : scratch_length (decode w).size
       let cut : moves_in k (take (3 * k) (drop p.members s)) (take k (drop p.bases s)) ≡ moves_in k (drop p.members s) (drop p.bases s) =
       moves-same k (take (3 * k) (drop p.members s)) (drop p.members s) (λ j h. get_or-take (3 * k) (drop p.members s) j 0 h) (take k (drop p.bases s)) (drop p.bases s) (λ j h. get_or-take k (drop p.bases s) j 0 h) in
       ap (λ (n : ℕ). moves_in n (take (3 * k) (drop p.members s)) (take k (drop p.bases s))) all ∙ cut ∙ rw (at.members, at.bases)
-
-pub lists-there : (w roots s : List ℕ) → scratch_length (decode w).size (length roots / 3) ≤ length s → old_list_at (decode w).size (length roots / 3) ≤ length s
-unfolding scratch_length
-lists-there w roots s room = omega arith
 
 -- what the cycle left, and what the change makes of it
 

@@ -32,7 +32,6 @@ use Rattle.cycle.specs.declared.turns.Gave.{Gave}
 use Rattle.question.specs.Question.{number}
 use Rattle.question.specs.declared.Question.{Question}
 use Rattle.std.proofs.Common.{Result, Ok, Err}
-use Rattle.cycle.proofs.Lending.{image-long}
 use Rattle.cycle.proofs.Sizes.{Moved, moved-few}
 use Rattle.words.specs.Words.{padded}
 use Rattle.collector.specs.Saving.{SavedTo}
@@ -51,10 +50,6 @@ work-few parts roots a h f = bind _ (moved-few parts roots (masks h.young.bar) (
 pub roots-whole : (roots : List ℕ) → roots_good roots ≡ true → whole_cells roots ≡ true
 unfolding roots_good
 roots-whole roots good = and_left (whole_cells roots) (leb (length roots) (3 * 4096)) good
-
-pub save-fits : (w roots s : List ℕ) → Image w (decode w) → scratch_length (decode w).size (length roots / 3) ≤ length s → length w ≤ length s
-unfolding scratch_length
-save-fits w roots s i room = omega (arith, image-long i)
 
 module _ (a : ℕ) (w roots s : List ℕ) {k : ℕ} (i : Image w (decode w)) (good : roots_good roots ≡ true) (room : scratch_length (decode w).size (length roots / 3) ≤ length s) (saved : SavedTo w k s) where
   few-roots : length roots ≤ 3 * 4096

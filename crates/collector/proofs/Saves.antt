@@ -3,10 +3,8 @@ use mathlib.Core.Path.{◌≡◌, sym, ap, ◌∙◌}
 use mathlib.Core.List.{List}
 use Prim.Native.Nat.{ℕ, ◌+◌, ◌-◌, ◌*◌, ◌^◌, ◌≤◌, ◌<◌}
 use native.Mathlib.Omega.{arith}
-use mir.Syntax.{w64}
-use mir.Val.{Fits}
 use lib.ListN.{length, take, drop, replicate, take-append-drop}
-use lib.Seq.{paste, take-paste, length-paste, length-take-le, take_all, drop-drop}
+use lib.Seq.{paste, take-paste, length-take-le, take_all, drop-drop}
 use Rattle.model.specs.Lists.{sum}
 use Rattle.model.specs.Records.{Cell}
 use Rattle.model.specs.Heap.{Sizes, in_use}
@@ -29,21 +27,11 @@ module _ (k : ℕ) (w : List ℕ) (h : k ≤ length w) where
   pub part_length : k ≡ length (take k w)
   part_length = sym (length-take-le k w h)
 
-  pub copy-room : (s : List ℕ) → k ≤ length s → 0 + length (take k w) ≤ length s
-  copy-room s l = omega (arith, part_length)
-
   copied : (s : List ℕ) {s' : List ℕ} → s' ≡ paste s 0 (take k w) (length (take k w)) → take k s' ≡ take k w
   copied s {s'} e =
       let n : ℕ = length (take k w) in
       let m : k ≡ 0 + n = omega (arith, part_length) in
       ap (λ (j : ℕ). take j s') m ∙ ap (take (0 + n)) e ∙ take-paste s 0 (take k w) n (omega arith) (omega arith) ∙ take_all n (take k w) (omega arith)
-
--- `restore`
-pub restored : (k : ℕ) (w s : List ℕ) → (k ≤ length w) × (k ≤ length s) → {v u : List ℕ} → v ≡ paste w 0 (take k s) (length (take k s)) → u ≡ padded (take k v) (length v) → u ≡ padded (take k s) (length w)
-restored k w s h p q =
-    let n : ℕ = length (take k s) in
-    let same = length-paste w 0 (take k s) n (omega (arith, part_length k s h.1, h.0)) (omega arith) in
-    q ∙ (λ i. padded (copied k s h.1 w p i) ((ap length p ∙ same) i))
 
 -- `save`
 module _ {w : List ℕ} (i : Image w (decode w)) {l : Layout} (p : Laid w l) where
@@ -69,15 +57,6 @@ module _ {w : List ℕ} (i : Image w (decode w)) {l : Layout} (p : Laid w l) whe
     pub end-inside : l.old + 3 * used ≤ length w
     end-inside = omega (arith, used-is, packed.fits, lent_length w l.old old-inside, old-inside)
 
-    pub cells_fit : length w < 2 ^ 64 → Fits w64 (3 * used)
-    cells_fit h = omega (arith, end-inside)
-
-    pub end_fits : length w < 2 ^ 64 → Fits w64 (l.old + 3 * used)
-    end_fits h = omega (arith, end-inside)
-
-    pub save-room : (s : List ℕ) → length w ≤ length s → 0 + length (take (l.old + 3 * used) w) ≤ length s
-    save-room s h = copy-room (l.old + 3 * used) w end-inside s (omega (arith, end-inside))
-
     rest-zero : drop (l.old + 3 * used) w ≡ replicate (length w - (l.old + 3 * used)) 0
     rest-zero =
         let n : length (lent l.old w) - 3 * used ≡ length w - (l.old + 3 * used) = omega (arith, lent_length w l.old old-inside) in
@@ -99,4 +78,4 @@ module _ {w : List ℕ} (i : Image w (decode w)) {l : Layout} (p : Laid w l) whe
     pub saved-to : (s : List ℕ) {s' : List ℕ} → s' ≡ paste s 0 (take (l.old + 3 * used) w) (length (take (l.old + 3 * used) w)) → SavedTo w (l.old + 3 * used) s'
     saved-to s q = record { front = copied (l.old + 3 * used) w end-inside s q; rest = rest-is; reaches = reaches; inside = end-inside }
 
-pub ruleset saves = (part_length, copy-room, restored, lengths-fit, end-inside, cells_fit, end_fits, save-room, saved-to)
+pub ruleset saves = (image-says-sized, part_length, lengths-fit, end-inside)

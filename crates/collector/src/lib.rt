@@ -91,6 +91,7 @@ fn collected(g: Gave) -> Allocation
 }
 
 // Moved pointers are changed in both generations.
+#[tactic(auto, unfolding(model::specs::Calls::scratch_length))]
 fn change_heap(
     image: &mut [u64],
     roots: &[u64],
@@ -131,6 +132,7 @@ fn collect_and_change(
 }
 
 // The roots change last, when nothing can refuse any more.
+#[tactic(auto, unfolding(model::specs::Calls::scratch_length))]
 fn change_roots(image: Formed<'_>, roots: &mut [u64], scratch: &[u64], moved: usize)
     requires roots_value { roots_good roots.old ≡ true }
     requires roots_in_bounds { scratch_length (decode image.words.now).size (length roots.old / 3) ≤ length scratch.now }
@@ -142,6 +144,7 @@ fn change_roots(image: Formed<'_>, roots: &mut [u64], scratch: &[u64], moved: us
 }
 
 // An amount that does not fit. A refusal at any depth puts the image back.
+#[tactic(auto, using(cycle::proofs::Lending::lengths), unfolding(model::specs::Calls::scratch_length))]
 fn collect_for(
     image: &mut [u64],
     roots: &mut [u64],

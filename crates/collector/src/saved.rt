@@ -10,6 +10,7 @@ use image::formed::Formed;
 use layout::places;
 
 // Answers how many words were saved.
+#[tactic(auto, using(crate::proofs::Saves::saves))]
 pub fn save(image: Formed<'_>, scratch: &mut [u64]) -> usize
     requires { length image.words.now ≤ length scratch.old }
     ensures { SavedTo image.entry.words.now result scratch.new }

@@ -2,7 +2,7 @@
 use mathlib.Core.Path.{◌≡◌, refl, sym, ap, ◌∙◌}
 use mathlib.Core.Bool.{Bool, true, false, ◌&&◌, not, true≢false}
 use mathlib.Core.List.{List}
-use Prim.Native.Nat.{ℕ, zero, suc, ◌+◌, ◌*◌, ◌/◌, ◌≤◌, ◌<◌}
+use Prim.Native.Nat.{ℕ, zero, suc, ◌+◌, ◌*◌, ◌/◌, ◌≤◌}
 use native.Mathlib.Omega.{arith}
 use lib.Dec.{leb, eqb}
 use lib.ListN.{length}
@@ -33,10 +33,6 @@ use Rattle.cycle.proofs.Turning.{turn_last, push-collected, sweep-few}
 module _ {w roots s : List ℕ} {what : Request} {left : ℕ} {done : Bool} (r : Ready w roots s what left done) where
   abbrev z : Sizes
   z = (decode w).size
-
-  -- the elder alone, which is not to be collected any more
-  pub ready-last : Ready w roots s what 1 true
-  ready-last = record { image = r.image; few = r.few; room = r.room; saved = r.saved; asked = r.asked; last = omega arith; some = omega arith; first = λ e. absurd (omega arith) }
 
   -- `alloc_or_collect`
 
@@ -157,14 +153,6 @@ module _ {w roots s : List ℕ} {what : Request} {left : ℕ} {done : Bool} (r :
 abbrev pub not_yet : Bool → ℕ
 not_yet true = 0
 not_yet false = 2
-
-pub last-falls : (left t : ℕ) (done : Bool) → done ≡ true → (left ≡ 1 → done ≡ false) → 1 ≤ left → 4 * left + not_yet done ≡ t → 5 < t
-last-falls left t done e n l m = go left (rw e at m) (λ f. true≢false (sym e ∙ n f)) l
-  where
-    go : (k : ℕ) → 4 * k + 0 ≡ t → (k ≡ 1 → ⊥) → 1 ≤ k → 5 < t
-    go zero m n l = absurd (omega arith)
-    go (suc zero) m n l = absurd (n refl)
-    go (suc (suc k)) m n l = omega arith
 
 pub first-falls : (left t : ℕ) (done : Bool) → done ≡ false → 4 * left + not_yet done ≡ t → 4 * left + 2 ≡ t
 first-falls left t done e m = rw e at m

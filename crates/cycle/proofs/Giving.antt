@@ -4,7 +4,6 @@ use mathlib.Core.Bool.{Bool, true, false, not}
 use mathlib.Core.List.{List}
 use Prim.Native.Nat.{ℕ, ◌-◌, ◌<◌}
 use lib.Dec.{ltb, leb}
-use lib.ListN.{get_or}
 use borrow.Author.Tests.{ltb-true, not-false, ne_eqb}
 use Rattle.std.proofs.Common.{Result, Ok, Err}
 use Rattle.model.specs.Res.{Res, ◌>>=◌}
@@ -23,7 +22,6 @@ use Rattle.pointers.specs.Steps.{moves_in}
 use Rattle.cycle.specs.declared.turns.Request.{Request}
 use Rattle.cycle.specs.declared.turns.Request.TheVariants.{New, Move}
 use Rattle.cycle.specs.declared.turns.Gave.{Gave}
-use Rattle.cycle.specs.Scratch.{young_in}
 use Rattle.cycle.specs.Turns.{at, in_elder, give, bumped, too_large, must_collect, give_in}
 use Rattle.cycle.specs.Outcomes.{Asked, Gives, gave_at, gave_turn}
 use Rattle.cycle.proofs.Doing.{does-map}
@@ -84,6 +82,3 @@ module _ (w s : List ℕ) (what : Request) (asked : Asked what (decode w).size s
   new-asked a left e n m =
       let f : not (ltb a ((decode w).size.n - (decode w).young.cursor)) ≡ false = rw (e, ne_eqb left 1 n) at m in
       (rw e at asked, ltb-true a ((decode w).size.n - (decode w).young.cursor) (not-false _ f))
-
-  pub move-asked : (b : ℕ) → what ≡ Move b → 0 < get_or (young_in (decode w).size s).lens b 0
-  move-asked b e = rw e at asked

@@ -20,19 +20,18 @@ use Rattle.theorems.proofs.Does.{does-same}
 use Rattle.theorems.proofs.Image.{encode-length}
 use Rattle.theorems.proofs.Lists.{take_in, drop-in}
 use Rattle.image.specs.Places.{lengths_at, young_cells_at}
-use Rattle.slots.proofs.Parts.{lent, returned, lent_length, returned-is, take_put, drop-put}
+use Rattle.slots.proofs.Parts.{returned, returned-is, take_put, drop-put}
 use Rattle.layout.specs.Places.{Laid}
+use Rattle.layout.proofs.Tail.{image-says-sized}
 use Rattle.layout.specs.declared.places.Layout.{Layout}
 use Rattle.fields.specs.Fields.{Reads}
-use Rattle.question.specs.Question.{number_answer}
 use Rattle.question.specs.declared.Question.{Question}
 use Rattle.elder.specs.Steps.{place_step}
-use Rattle.elder.specs.Steps as elder
 use Rattle.nursery.specs.Steps.{collected_answer}
 use Rattle.nursery.specs.Steps as nursery
 use Rattle.nursery.specs.declared.Collected.{Collected}
 use Rattle.nursery.proofs.Parts.{promoted-words}
-use Rattle.cycle.specs.Scratch.{old_list_at, young_in, parts_in, Saved, Front, SweptIn, CollectedIn}
+use Rattle.cycle.specs.Scratch.{young_in, parts_in, Saved, Front, CollectedIn}
 
 abbrev sizes : List ℕ → Sizes
 sizes w = (decode w).size
@@ -40,47 +39,21 @@ sizes w = (decode w).size
 pub image-long : {w : List ℕ} → Image w (decode w) → length w ≡ image_length (sizes w)
 image-long {w} i = ap length i.is ∙ encode-length (decode w) i.fit
 
--- the image's length and N
-pub record Measured (w : List ℕ) (n : ℕ) : Type 0 where
-  pub long : length w ≡ image_length (sizes w)
-  pub size : n ≡ (sizes w).n
+pub size-is : {w : List ℕ} {n : ℕ} → Image w (decode w) → Reads (λ h. h.size.n) w n → n ≡ (sizes w).n
+size-is {w} i r = sym (r.reads (decode w) i)
 
-pub measured : {w : List ℕ} {n : ℕ} → Image w (decode w) → Reads (λ h. h.size.n) w n → Measured w n
-measured {w} i r = record { long = image-long i; size = sym (r.reads (decode w) i) }
+pub ruleset lengths = (image-long, size-is)
 
 -- what stands before a tail that was lent stays
 front-put : {k at : ℕ} (s ys : List ℕ) → at ≤ length s → at ≡ k → Front k s (returned at s ys)
 front-put {k} {at} s ys h e = record { same = rw (returned-is s at h ys) (take_put s at h ys k (omega arith)) }
 
--- question 4: the lists that scratch has room for
+-- `collect_nursery`: question 4 says that scratch has room for the lists
 
 module _ {w : List ℕ} (i : Image w (decode w)) (roots s : List ℕ) (room : scratch_length (sizes w) (length roots / 3) ≤ length s) where
-  abbrev r : ℕ
-  r = length roots / 3
-
-  pub lists-room : old_list_at (sizes w) r + 3 * (r + (sizes w).s + (sizes w).c) ≤ length s
+  image-inside : length w ≤ length s
   unfolding scratch_length
-  lists-room = room
-
-  -- `sweep`
-
-  module _ {at : ℕ} (e : at ≡ old_list_at (sizes w) r) where
-    inside : at ≤ length s
-    inside = omega (arith, lists-room)
-
-    pub old-list-long : 3 * (r + (sizes w).s + (sizes w).c) ≤ length (lent at s)
-    old-list-long = omega (arith, lists-room, lent_length s at inside)
-
-    pub swept-in : {ms v : List ℕ} {answer : Result ℕ Question} (ys : List ℕ) → Does (elder.collect_step (cells_in roots) ms) w (number_answer answer) v → SweptIn w roots ms s answer v (returned at s ys)
-    swept-in ys d = record { does = d; front = front-put s ys inside e }
-
-  -- `collect_nursery`
-
-  pub image-inside : length w ≤ length s
-  image-inside = omega (arith, image-long i, lists-room)
-
-  pub young-list-long : 3 * (r + 2 * (sizes w).n) ≤ length (lent (length w) s)
-  young-list-long = omega (arith, image-long i, lists-room, lent_length s (length w) image-inside)
+  image-inside = omega (arith, image-long i)
 
   pub collected-in : {ms v : List ℕ} {b : Barrier} {answer : Result Collected Question} (ys : List ℕ) → Reads (λ h. h.old.bar) w b → ms ≡ masks b
       → Does (nursery.collect_step (cells_in roots) ms) w (collected_answer answer ys) v → CollectedIn w roots s answer v (returned (length w) s ys)
@@ -115,6 +88,12 @@ module _ {w : List ℕ} (i : Image w (decode w)) {l : Layout} (p : Laid w l) whe
       let d = p.old in
       let e = p.end in
       record { lens = omega arith; size = omega arith; young = omega arith; cells = omega arith; end = omega arith; behind = omega arith }
+
+  pub lens-end : l.slots ≤ image_length (sizes w)
+  lens-end = stands.behind
+
+  pub cells-end : l.old ≤ image_length (sizes w)
+  cells-end = stands.end
 
   module _ {s : List ℕ} (f : Saved (sizes w) s) where
     lens-are : take (l.slots - l.lens) (drop l.lens s) ≡ (young_in (sizes w) s).lens
@@ -158,3 +137,5 @@ module _ {w : List ℕ} (i : Image w (decode w)) {l : Layout} (p : Laid w l) whe
 
         pub part_placed : {answer : Res ℕ} {v : List ℕ} → Does (place_step (cells_in words)) w answer v → Does (place_step (parts_in (sizes w) s b)) w answer v
         part_placed d = rw (words_are, words-in (parts_in (sizes w) s b) valid-part) at d
+
+pub ruleset parts = (image-says-sized, lens-end, cells-end)

@@ -113,9 +113,6 @@ module _ {w roots s : List ℕ} {what : Request} {c : Collected} {u t : List ℕ
   unfolding decode sizes_of
   n-small = (sized-in b.ready.image).bounds.n
 
-  pub moved-fits : moved < 2 ^ 64
-  moved-fits = omega (arith, few-moved, few-roots, n-small)
-
   s-small : z.s ≤ 8192
   unfolding decode sizes_of
   s-small = (sized-in b.ready.image).bounds.s

@@ -25,6 +25,7 @@ pub struct Parts {
 }
 
 impl Parts {
+    #[tactic(auto, using(crate::proofs::Lending::lengths))]
     pub fn of(image: Formed<'_>, roots: &[u64]) -> Parts
         requires { old_list_at (decode image.words.now).size (length roots.now / 3) < 2 ^ 64 }
         ensures { PartsOf (decode image.entry.words.now).size (length roots.now / 3) result }
@@ -69,6 +70,7 @@ pub fn survivor(scratch: &[u64], at: usize, i: usize) -> u64
 }
 
 // A collection of the elder, its members listed at the end of scratch.
+#[tactic(auto, unfolding(model::specs::Calls::scratch_length))]
 pub fn sweep(
     image: &mut [u64],
     roots: &[u64],
@@ -84,6 +86,7 @@ pub fn sweep(
 }
 
 // A collection of the nursery, with the masks of this moment, its survivors listed behind the saved image.
+#[tactic(auto, using(crate::proofs::Lending::lengths), unfolding(model::specs::Calls::scratch_length))]
 pub fn collect_nursery(
     image: &mut [u64],
     roots: &[u64],
@@ -99,6 +102,7 @@ pub fn collect_nursery(
 }
 
 // The saved allocation at base moved to the elder. Not by a method of `Layout`: scratch is longer than the image, and none itself.
+#[tactic(auto, using(crate::proofs::Lending::parts))]
 pub fn place_part(image: &mut [u64], scratch: &[u64], base: u64) -> Result<u64, Question>
     requires image { Image image.old (decode image.old) }
     requires saved { Saved (decode image.old).size scratch.now }

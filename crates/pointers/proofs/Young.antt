@@ -22,6 +22,7 @@ use Rattle.theorems.proofs.Parts.{header, parts_of, encode-parts}
 use Rattle.theorems.proofs.Tiles.{cursor-le}
 use Rattle.slots.proofs.Flat.{words_append}
 use Rattle.layout.specs.Places.{Laid}
+use Rattle.layout.proofs.Tail.{image-says-sized}
 use Rattle.layout.specs.declared.places.Layout.{Layout}
 use Rattle.fields.specs.Fields.{Reads, Turns, on_young, YoungCells}
 use Rattle.fields.proofs.Parts.{sized-in, n-is, young-cells, young-cells-put}
@@ -121,3 +122,5 @@ module _ {w : List ℕ} {l : Layout} (p : Laid w l) {k : ℕ} (at-cursor : Reads
       (c : (ys ≡ cell_words (map (swap_cell m) (cells_in (take size (drop l.young w))))) × (r ≡ length (keep_if (holds m.0) (cells_in (take size (drop l.young w)))))) where
     pub young-swapped : Turns (on_young (swapped_young m)) w (put_mid l.young size w ys) × (r ≡ length (keep_if (holds m.0) (take (decode w).young.cursor (decode w).young.cells)))
     young-swapped = (record { turns = λ h j. swapped-image j m c.0 }, rw (at-cursor.reads (decode w) i, ← below-cells i) c.1)
+
+pub ruleset ends = (image-says-sized, end-inside, below-whole)

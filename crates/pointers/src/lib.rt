@@ -26,6 +26,7 @@ use trace::Member;
 // ---- One pointer: (heap, base, offset) becomes (1, new, 0)
 
 // In nursery cells below the cursor; how many held it.
+#[tactic(auto, using(crate::proofs::Young::ends))]
 fn swap_young(image: &mut [u64], moved: Move) -> usize
     requires { Image image.old (decode image.old) }
     ensures turns { Turns (on_young (swapped_young (move_of moved))) image.old image.new }

@@ -6,11 +6,10 @@ use lib.IntN.{nat_abs}
 use lib.ListN.{length}
 use mir.Syntax.{w64}
 use mir.Val.{to_z, of_z}
-use borrow.Author.Tests.{ltb-true}
 use Rattle.model.specs.Image.{decode}
 use Rattle.model.specs.Calls.{roots_good, scratch_length}
 use Rattle.image.proofs.Bounds.{said-no, said-yes}
-use Rattle.collector.proofs.Asking.{Amount, amount-is, amount-cast, roots-refused, scratch-refused, amount-refused, asked-amount, asked-collect}
+use Rattle.collector.proofs.Asking.{Amount, amount-is, roots-refused, scratch-refused, amount-refused, asked-amount, asked-collect}
 use Rattle.collector.proofs.alloc_formed.Goals as goal
 use Rattle.collector.proofs.alloc_formed.Goals.{Else-amount-le0, Else-not-roots_ok, Else-scratch-scratch_for}
 
@@ -26,9 +25,6 @@ amount c = amount-is c.args.amount c.ranges.amount c.if-amount-le0.false
 pub returns-then-not-roots_ok : goal.returns-then-not-roots_ok
 returns-then-not-roots_ok c = roots-refused _ _ _ c.args.amount (said-no c.roots_ok.ensures c.if-not-roots_ok.true)
 
-pub scratch_for-requires : goal.scratch_for-requires
-scratch_for-requires c = good (goal.at.scratch_for-requires c).Else-not-roots_ok
-
 pub returns-then-scratch-scratch_for : goal.returns-then-scratch-scratch_for
 returns-then-scratch-scratch_for c =
     scratch-refused _ _ _ c.args.amount (good (goal.at.returns-then-scratch-scratch_for c).Else-not-roots_ok) (omega (arith, c.scratch_for.ensures, c.if-scratch-scratch_for.true))
@@ -37,26 +33,9 @@ pub returns-then-amount-le0 : goal.returns-then-amount-le0
 returns-then-amount-le0 c =
     amount-refused _ _ _ c.args.amount (good (goal.at.returns-then-amount-le0 c).Else-not-roots_ok) (room (goal.at.returns-then-amount-le0 c).Else-scratch-scratch_for) c.ranges.amount c.if-amount-le0.true
 
-pub overflow_cast-cells : goal.overflow_cast-cells
-overflow_cast-cells c = amount-cast c.args.amount c.ranges.amount c.if-amount-le0.false
-
-pub stay_young-requires : goal.stay_young-requires
-stay_young-requires c = record {
-  image = c.requires;
-  amount_nonzero = ((amount (goal.at.stay_young-requires c).Else-amount-le0).above, ltb-true _ _ (c.fits.ensures.reads _ c.requires ∙ c.if-fits.true));
-}
-
 pub returns-then-fits : goal.returns-then-fits
 returns-then-fits c =
     asked-amount _ _ _ _ (good (goal.at.returns-then-fits c).Else-not-roots_ok) (room (goal.at.returns-then-fits c).Else-scratch-scratch_for) (amount (goal.at.returns-then-fits c).Else-amount-le0) ∙ c.stay_young.ensures _ (good (goal.at.returns-then-fits c).Else-not-roots_ok)
-
-pub collect_for-requires : goal.collect_for-requires
-collect_for-requires c = record {
-  image = c.requires;
-  roots_value = good (goal.at.collect_for-requires c).Else-not-roots_ok;
-  roots_in_bounds = room (goal.at.collect_for-requires c).Else-scratch-scratch_for;
-  amount_nonzero = (amount (goal.at.collect_for-requires c).Else-amount-le0).above;
-}
 
 pub returns : goal.returns
 returns c =

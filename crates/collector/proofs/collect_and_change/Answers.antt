@@ -1,16 +1,9 @@
 use mathlib.Core.Path.{◌∙◌}
 use borrow.Author.Rules.{rules}
-use native.Mathlib.Omega.{arith}
 use Rattle.question.proofs.Passing.{refused_as}
 use Rattle.fields.proofs.Counts.{young-bar}
 use Rattle.collector.proofs.Changed.{worked-refused, change-asked, worked-done, worked-uncounted}
 use Rattle.collector.proofs.collect_and_change.Goals as goal
-
-pub collect_and_push_allocation-requires : goal.collect_and_push_allocation-requires
-collect_and_push_allocation-requires c = record {
-  ready = c.requires;
-  collected_value = λ e. absurd (omega arith);
-}
 
 pub returns-in_err-g : goal.returns-in_err-g
 returns-in_err-g c = rw (refused_as c.from_residual.result _ c.from_residual.ensures.1) (rw c.in_err-g.was at (worked-refused c.requires (young-bar c.barrier_of.ensures) (c.as_slice.ensures ∙ c.of-masks.ensures) c.collect_and_push_allocation.ensures _ c.in_err-g.was))

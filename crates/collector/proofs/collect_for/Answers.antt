@@ -5,7 +5,7 @@ use native.Mathlib.Omega.{arith}
 use lib.ListN.{length}
 use Rattle.model.specs.Image.{decode}
 use Rattle.model.specs.Calls.{scratch_length}
-use Rattle.collector.proofs.Ending.{save-fits, ready-first, roots-asked, refused-is, gave-is}
+use Rattle.collector.proofs.Ending.{ready-first, roots-asked, refused-is, gave-is}
 use Rattle.collector.proofs.collect_for.Goals as goal
 use Rattle.collector.proofs.collect_for.Goals.{After-collect_and_change, After-save-used}
 
@@ -18,9 +18,6 @@ room-saved c = omega (arith, long-saved c, c.requires.roots_in_bounds)
 
 kept : (c : After-collect_and_change) → (length c.collect_and_change.new.image ≡ length c.args.image.now) × (length c.collect_and_change.new.scratch ≡ length c.save-used.new.scratch)
 kept c = (search rules, search rules)
-
-pub save-used-requires : goal.save-used-requires
-save-used-requires c = save-fits c.args.image.now c.args.roots.now c.args.scratch.now c.requires.image c.requires.roots_in_bounds
 
 pub collect_and_change-requires : goal.collect_and_change-requires
 collect_and_change-requires c = ready-first _ c.args.image.now c.args.roots.now c.save-used.new.scratch c.requires.image c.requires.roots_value (room-saved (goal.at.collect_and_change-requires c).After-save-used) c.save-used.ensures c.requires.amount_nonzero
@@ -35,9 +32,6 @@ change_roots-requires c = let n = roots-asked _ c.args.image.now c.args.roots.no
   roots_in_bounds = n.2;
   moved_in_bounds = n.3;
 }
-
-pub restore-requires : goal.restore-requires
-restore-requires c = let l = c.save-used.ensures.inside in let k = (kept (goal.at.restore-requires c).After-collect_and_change) in let n = save-fits c.args.image.now c.args.roots.now c.args.scratch.now c.requires.image c.requires.roots_in_bounds in let m = long-saved (goal.at.restore-requires c).After-save-used in (omega (arith, k.0), omega (arith, k.1))
 
 pub returns-in-Ok : goal.returns-in-Ok
 returns-in-Ok c = gave-is _ c.args.image.now c.args.roots.now c.save-used.new.scratch c.requires.image c.requires.roots_value (room-saved (goal.at.returns-in-Ok c).After-save-used) c.save-used.ensures c.collect_and_change.ensures _ c.in-Ok.is c.change_roots.ensures ∙ sym (c.collected.ensures _ _)

@@ -1,7 +1,7 @@
 use Rattle.std.proofs.Common.{◌≡◌, rules, arith, ℕ}
 use Rattle.question.proofs.Passing.{refused_as}
 use Rattle.cycle.proofs.Pushing.{Begun, pushing-none, survivor-inside, ready-move, pushing-refused, note-asks, pushing-more, ready-again, pushing-done}
-use Rattle.cycle.proofs.Cycling.{ready-last, turned-push, turned-give, not-to-collect, only-once, push-last, ready-swept, push-swept, swept-refused, nursery-refused, two-left, begun, at_first, last-falls, first-falls}
+use Rattle.cycle.proofs.Cycling.{turned-push, turned-give, not-to-collect, only-once, push-last, ready-swept, push-swept, swept-refused, nursery-refused, two-left, begun, at_first, first-falls}
 use Rattle.cycle.proofs.+alloc_or_collect_collect_and_push_allocation.Goals as goal
 use Rattle.cycle.proofs.+alloc_or_collect_collect_and_push_allocation.Goals.{collect_and_push_allocation-In_ok-c}
 
@@ -20,10 +20,6 @@ alloc_or_collect-returns t c = turned-give c.requires c.must_collect.ensures _ c
 
 pub collect_and_push_allocation-returns-then-collected : goal.collect_and_push_allocation-returns-then-collected
 collect_and_push_allocation-returns-then-collected t c = push-last c.requires.ready _ c.if-collected.true c.alloc_or_collect.ensures
-
-pub collect_and_push_allocation-alloc_or_collect-requires : goal.collect_and_push_allocation-alloc_or_collect-requires
-collect_and_push_allocation-alloc_or_collect-requires t c =
-    (last-falls _ _ _ c.if-collected.true c.requires.collected_value c.requires.ready.some c.decreases, ready-last c.requires.ready)
 
 pub collect_and_push_allocation-returns-in_err-visits : goal.collect_and_push_allocation-returns-in_err-visits
 collect_and_push_allocation-returns-in_err-visits t c =

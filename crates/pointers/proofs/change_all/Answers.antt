@@ -14,9 +14,6 @@ taken c = pair-taken _ _ _ c.into_iter-entry-iterator.result c.loop-entry.entry-
 pub loop-entry-init : goal.loop-entry-init
 loop-entry-init c = changes-begin c.requires
 
-pub change-requires : goal.change-requires
-change-requires c = c.loop-entry.invariant.image
-
 pub loop-entry-preserved : goal.loop-entry-preserved
 loop-entry-preserved c =
     rw length_push (changes-turn c.loop-entry.invariant (moved-as c.member_move.ensures c.from.ensures (taken (goal.at.loop-entry-preserved c).In-Some)) _ c.change.ensures _ c.in_ok-change.was)

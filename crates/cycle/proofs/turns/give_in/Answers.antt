@@ -1,6 +1,6 @@
 use Rattle.std.proofs.Common.{Ok, ap, sym, ◌∙◌}
 use Rattle.question.proofs.Passing.{refused_as}
-use Rattle.cycle.proofs.Giving.{placed, give-new, give-move, give-young, new-asked, move-asked}
+use Rattle.cycle.proofs.Giving.{placed, give-new, give-move, give-young, new-asked}
 use Rattle.cycle.proofs.turns.give_in.Goals as goal
 
 pub returns-in_err-place-in-New : goal.returns-in_err-place-in-New
@@ -16,13 +16,6 @@ pub bump-requires : goal.bump-requires
 bump-requires c = record {
   image = c.requires.image;
   amount_nonzero = new-asked _ _ _ c.requires.asked _ _ c.in-New.is c.if-left-eq1.false c.requires.image_value;
-}
-
-pub place_part-requires : goal.place_part-requires
-place_part-requires c = record {
-  image = c.requires.image;
-  saved = c.requires.saved;
-  nonzero = move-asked _ _ _ c.requires.asked _ c.in-Move.is;
 }
 
 pub returns-else-left-eq1 : goal.returns-else-left-eq1
