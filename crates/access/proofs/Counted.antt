@@ -1,30 +1,32 @@
 -- What a write counts: the barrier's own steps, and the counts that they changed.
-use mathlib.Core.Path.{◌≡◌, refl, sym, subst, ◌∙◌}
+use mathlib.Core.Path.{◌≡◌, refl, sym, ap, ◌∙◌}
 use mathlib.Core.Bool.{Bool, true, false, not}
 use mathlib.Core.List.{List}
 use Prim.Native.Nat.{ℕ, zero, suc, ◌-◌, ◌%◌, ◌<◌}
 use native.Mathlib.Omega.{arith}
 use lib.Dec.{eqb, ltb}
-use lib.ListN.{get_or, set}
-use lib.Seq.{get_or-set_same}
+use lib.ListN.{get_or, set, replicate}
+use lib.Seq.{get_or-set_same, get_or-set_other, set-get_or, set-set}
+use borrow.Author.Tests.{eqb-true, eqb-false}
 use Rattle.std.proofs.Common.{Result, Ok, Err}
 use Rattle.model.specs.Res.{Res, ok, refuse, ◌>>=◌, ask}
-use Rattle.model.specs.Records.{Cell, plain, ref, blank}
+use Rattle.model.specs.Records.{Cell, plain, ref}
 use Rattle.model.specs.Barrier.{Barrier, absent, present, cache, most, counts, count, up, down, count_in, count_out}
 use Rattle.model.specs.Heap.{Heap}
 use Rattle.model.specs.Image.{decode}
+use Rattle.theorems.specs.Holds.{Holds, such}
 use Rattle.theorems.specs.Fit.{FitBarrier, Image}
 use Rattle.theorems.specs.Does.{with_young, with_old}
-use Rattle.theorems.proofs.Barrier.{low_byte}
+use Rattle.theorems.proofs.Barrier.{low_byte, out-fit}
 use Rattle.question.specs.Question.{number, answer}
 use Rattle.question.specs.declared.Question.{Question}
-use Rattle.barrier.specs.Counts.{barrier_of, step_of}
+use Rattle.barrier.specs.Counts.{barrier_of}
 use Rattle.barrier.specs.declared.WriteBarrier.{WriteBarrier}
 use Rattle.barrier.proofs.Steps.{Steps, steps-in, steps-out}
 use Rattle.fields.specs.Fields.{Reads, Turns, with_bar, with_old_bar, bar_of, on_bar, with_count}
 use Rattle.fields.proofs.Parts.{decoded}
 use Rattle.fields.proofs.Counts.{bar-fit}
-use Rattle.access.specs.Counting.{gone_if, crosses, place_of, count_from, count_of, recounted, on_counts, Leaves, done, kept}
+use Rattle.access.specs.Counting.{crosses, place_of, count_from, count_of, recounted, on_counts, Leaves, done, kept}
 use Rattle.access.proofs.Crossing.{bar-same}
 
 -- a heap with another barrier
@@ -47,12 +49,6 @@ module _ {m : Res Barrier} (r : Result WriteBarrier Question) (e : answer barrie
 
   pub step-refused : (q : Question) → r ≡ Err q → m ≡ refuse (number q)
   step-refused q f = sym e ∙ rw f
-
--- what is counted out, if anything
-pub gone-counted : (out : Bool) (own : ℕ) (old new : Cell) → recounted own true (gone_if out old) new ≡ recounted own out old new
-unfolding recounted gone_if count_out blank
-gone-counted true own old new = refl
-gone-counted false own old new = refl
 
 -- what one step changes: the count at one place, of a cell that counts
 
@@ -112,80 +108,93 @@ counts-in own = counts-by (steps-in own) up_from
 pub counts-out : (own : ℕ) → Counts own (count_out own)
 counts-out own = counts-by (steps-out own) down-from
 
-pub counts-of : (into : Bool) (own : ℕ) → Counts own (step_of into own)
-unfolding step_of
-counts-of true = counts-in
-counts-of false = counts-out
+-- what both steps change: the counts at two places, as the later step left them
 
-pub leaves-as : {m n : Res Heap} {w v : List ℕ} {r : Result (Unit {0}) Question} → m ≡ n → Leaves m w r v → Leaves n w r v
-leaves-as {w = w} {v = v} {r = r} e = subst (λ (x : Res Heap). Leaves x w r v) e
+both-set : (j k : ℕ) (bs cs ds : List ℕ) → cs ≡ set bs j (get_or cs j 0) → ds ≡ set cs k (get_or ds k 0) → set (set bs j (get_or ds j 0)) k (get_or ds k 0) ≡ ds
+both-set j k bs cs ds e f = go (eqb j k) refl
+  where
+    m : ℕ
+    m = get_or ds k 0
 
--- the image after a step whose count was stored
+    over : (l : List ℕ) → set l k m ≡ ds → (x : ℕ) → set (set l k x) k m ≡ ds
+    over l g x = set-set l k x m ∙ g
+
+    go : (t : Bool) → eqb j k ≡ t → set (set bs j (get_or ds j 0)) k m ≡ ds
+    go true x =
+        let same : j ≡ k = eqb-true j k x in
+        let first : set bs k m ≡ ds = sym (set-set bs k (get_or cs k 0) m) ∙ ap (λ (l : List ℕ). set l k m) (sym (rw same at e)) ∙ sym f in
+        rw same (over bs first (get_or ds k 0))
+    go false x =
+        let there : get_or ds j 0 ≡ get_or cs j 0 = ap (λ (l : List ℕ). get_or l j 0) f ∙ get_or-set_other cs k j m 0 (eqb-false j k x) in
+        ap (λ (l : List ℕ). set l k m) (ap (set bs j) there ∙ sym e) ∙ sym f
+
+both-from : (j k : ℕ) (b c d : Barrier) → count_from j c b ≡ c → count_from k d c ≡ d → count_from k d (count_from j d b) ≡ d
+unfolding with_count counts
+both-from j k b absent absent e f = e
+both-from j k b (present cs) absent e f = let z : ◌≡◌ {A = ℕ} 0 1 = cc in absurd (omega arith)
+both-from j k b absent (present ds) e f =
+    let zeros : set (replicate cache 0) k (get_or ds k 0) ≡ ds = cc in
+    rw e (ap present (both-set j k (replicate cache 0) (replicate cache 0) ds (sym (set-get_or (replicate cache 0) j 0)) (sym zeros)))
+both-from j k b (present cs) (present ds) e f =
+    let first : set (counts b) j (get_or cs j 0) ≡ cs = cc in
+    let then : set cs k (get_or ds k 0) ≡ ds = cc in
+    ap present (both-set j k (counts b) cs ds (sym first) (sym then))
+
+fit-of : {c : Barrier} → Holds FitBarrier (ok c) → FitBarrier c
+fit-of (such f) = f
+
+module _ (own : ℕ) (old new : Cell) (b : Barrier) (f : FitBarrier b) where
+  both-changed : {c d : Barrier} → count_out own old b ≡ ok c → count_in own new c ≡ ok d → count_of own new d (count_of own old d b) ≡ d
+  unfolding count_of
+  both-changed {c} {d} o n =
+      go (crosses own old) (crosses own new) refl refl ((counts-out own).from old b c f o) ((counts-in own).from new c d (fit-of (rw o at (out-fit own old b f))) n)
+    where
+      j : ℕ
+      j = place_of old
+
+      k : ℕ
+      k = place_of new
+
+      go : (s t : Bool) → crosses own old ≡ s → crosses own new ≡ t → (elim s [ true ↦ count_from j c b | false ↦ b ]) ≡ c → (elim t [ true ↦ count_from k d c | false ↦ c ]) ≡ d
+          → (elim t [ true ↦ count_from k d (elim s [ true ↦ count_from j d b | false ↦ b ]) | false ↦ elim s [ true ↦ count_from j d b | false ↦ b ] ]) ≡ d
+      go true true x y e g = both-from j k b c d e g
+      go true false x y e g = rw (← g) e
+      go false true x y e g = rw e g
+      go false false x y e g = e ∙ g
+
+  both-counted : (d : Barrier) → recounted own old new b ≡ ok d → count_of own new d (count_of own old d b) ≡ d
+  unfolding recounted
+  both-counted d e = go (count_out own old b) refl e
+    where
+      go : (m : Res Barrier) → count_out own old b ≡ m → (m >>= count_in own new) ≡ ok d → count_of own new d (count_of own old d b) ≡ d
+      go (ok c) o n = both-changed o n
+      go (refuse q) o n = let z : ◌≡◌ {A = ℕ} 0 1 = cc in absurd (omega arith)
+
+-- the image after both counts were stored
 
 abbrev Stores : ℕ → Cell → Barrier → List ℕ → List ℕ → Type 0
 Stores own c d w v = Turns (λ h. on_bar own (count_of own c d (bar_of own h)) h) w v
 
-step-image : {own : ℕ} {f : Cell → Barrier → Res Barrier} → Counts own f → {w v : List ℕ} {h : Heap} → Image w h → (c : Cell) {d : Barrier} → f c (bar_of own h) ≡ ok d → Stores own c d w v → Image v (on_bar own d h)
-step-image {own} k {h = h} i c {d} e t = rw (k.from c (bar_of own h) d (bar-fit i own) e) at (t.turns h i)
-
-module _ {w : List ℕ} (i : Image w (decode w)) (own : ℕ) {b : Barrier} (r : Reads (λ h. bar_of own h) w b) where
+module _ {w : List ℕ} (i : Image w (decode w)) (own : ℕ) (old new : Cell) {b : Barrier} (r : Reads (λ h. bar_of own h) w b) where
   was : bar_of own (decode w) ≡ b
   was = r.reads (decode w) i
 
-  fit : FitBarrier b
-  fit = rw was at (bar-fit i own)
+  pub recount-refused : (q : Question) → recounted own old new b ≡ refuse (number q) → Leaves (on_counts own (recounted own old new) (decode w)) w (Err q) w
+  unfolding on_counts
+  recount-refused q e = rw (was, e) kept
 
-  -- one step
-  module _ (f : Cell → Barrier → Res Barrier) (c : Cell) (x : Result WriteBarrier Question) (e : answer barrier_of x ≡ f c b) where
-    pub alone-refused : (q : Question) → x ≡ Err q → Leaves (on_counts own (f c) (decode w)) w (Err q) w
+  module _ (d : Barrier) {u : List ℕ} (s : Stores own old d w u) where
+    pub old-stored : Image u (decode u)
+    old-stored = decoded (s.turns (decode w) i)
+
+    pub recount-stored : recounted own old new b ≡ ok d → {v : List ℕ} → Stores own new d u v → Leaves (on_counts own (recounted own old new) (decode w)) w (Ok tt) v
     unfolding on_counts
-    alone-refused q k = rw (was, step-refused x e q k) kept
+    recount-stored e t =
+        let x : Barrier = count_of own old d (bar_of own (decode w)) in
+        let stored : count_of own new d x ≡ d = rw was (both-counted own old new b (rw was at (bar-fit i own)) d e) in
+        rw (was, e) (done (rw (bar-on own x (decode w), stored, bar-over own d x (decode w)) at (t.turns _ (s.turns (decode w) i))))
 
-    pub alone-stored : Counts own f → (d : WriteBarrier) → x ≡ Ok d → {v : List ℕ} → Stores own c (barrier_of d) w v → Leaves (on_counts own (f c) (decode w)) w (Ok tt) v
-    unfolding on_counts
-    alone-stored s d k t = rw (was, step-done x e d k) (done (step-image s i c (rw was (step-done x e d k)) t))
-
-  -- the old cell out, then the new one in
-  module _ (old new : Cell) where
-    abbrev both : Res Heap
-    both = on_counts own (recounted own true old new) (decode w)
-
-    pub out-refused : (q : Question) → count_out own old b ≡ refuse (number q) → Leaves both w (Err q) w
-    unfolding on_counts recounted
-    out-refused q o = rw (was, o) kept
-
-    module _ {d : Barrier} (o : count_out own old b ≡ ok d) where
-      pub in-refused : (q : Question) → count_in own new d ≡ refuse (number q) → Leaves both w (Err q) w
-      unfolding on_counts recounted
-      in-refused q n = rw (was, o, n) kept
-
-      module _ {u : List ℕ} (t : Stores own old d w u) where
-        out-image : Image u (on_bar own d (decode w))
-        out-image = step-image (counts-out own) i old (rw was o) t
-
-        pub out-stored : Image u (decode u)
-        out-stored = decoded out-image
-
-        pub both_stored : {v : List ℕ} {e : Barrier} → count_in own new d ≡ ok e → Stores own new e u v → Leaves both w (Ok tt) v
-        unfolding on_counts recounted
-        both_stored {e = e} n s =
-            rw (was, o, n) (done (rw (bar-over own e d (decode w)) at (step-image (counts-in own) out-image new (rw (bar-on own d (decode w)) n) s)))
-
--- cells that do not count
-
-module _ (own : ℕ) (old new : Cell) (h : Heap) where
-  pub only-in : crosses own old ≡ false → on_counts own (count_in own new) h ≡ on_counts own (recounted own true old new) h
-  unfolding on_counts recounted
-  only-in e = rw ((counts-out own).apart old (bar_of own h) e)
-
-  pub only_out : crosses own new ≡ false → on_counts own (count_out own old) h ≡ on_counts own (recounted own true old new) h
-  unfolding on_counts recounted
-  only_out e = go (count_out own old (bar_of own h))
-    where
-      go : (m : Res Barrier) → (m >>= λ x. ok (on_bar own x h)) ≡ ((m >>= count_in own new) >>= λ x. ok (on_bar own x h))
-      go (ok x) = rw ((counts-in own).apart new x e)
-      go (refuse q) = refl
-
-pub neither : {w : List ℕ} → Image w (decode w) → (own : ℕ) (old new : Cell) → crosses own old ≡ false → crosses own new ≡ false → Leaves (on_counts own (recounted own true old new) (decode w)) w (Ok tt) w
+-- no cell counts
+pub neither : {w : List ℕ} → Image w (decode w) → (own : ℕ) (old new : Cell) → crosses own old ≡ false → crosses own new ≡ false → Leaves (on_counts own (recounted own old new) (decode w)) w (Ok tt) w
 unfolding on_counts recounted
 neither {w} i own old new e f = rw ((counts-out own).apart old (bar_of own (decode w)) e, (counts-in own).apart new (bar_of own (decode w)) f, bar-same own (decode w)) (done i)

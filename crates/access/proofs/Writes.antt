@@ -32,7 +32,7 @@ use Rattle.layout.specs.Elder.{with_slots, Turned}
 use Rattle.fields.specs.Fields.{Turns, on_young, on_old, with_bar, with_old_bar, with_cell, bar_of, on_bar, cell_in}
 use Rattle.image.specs.Answers.{made_outcome}
 use Rattle.access.specs.Access.{pointer_of, stored_outcome}
-use Rattle.access.specs.Counting.{out_if, recounted, on_counts, store_young, store_old, Leaves, done, kept}
+use Rattle.access.specs.Counting.{gone_if, recounted, on_counts, store_young, store_old, Leaves, done, kept}
 use Rattle.access.proofs.Answers.{pointer_is}
 
 -- what was left, by the answer
@@ -93,20 +93,20 @@ module _ (w : List ℕ) (e : value_good w ≡ true) where
 
 module _ {w : List ℕ} (b o : ℕ) {old new : Cell} (cell : List ℕ) {r : Result (Unit {0}) Question} {v : List ℕ}
     (eo : old ≡ get_or (get_or (decode w).old.slots b []) o blank) (en : new ≡ cell_in cell) (g : value_good cell ≡ true)
-    (l : Leaves (on_counts 1 (recounted 1 true old new) (decode w)) w r v) where
+    (l : Leaves (on_counts 1 (recounted 1 old new) (decode w)) w r v) where
   abbrev h : Heap
   h = decode w
 
   abbrev s : List Cell
   s = get_or h.old.slots b []
 
-  store_is : store_old b s o (cell_in cell) h ≡ (recounted 1 true old new h.old.bar >>= λ x. ok (with_old (record { colls = h.old.colls; bar = x; slots = set h.old.slots b (set s o (cell_in cell)) }) h))
+  store_is : store_old b s o (cell_in cell) h ≡ (recounted 1 old new h.old.bar >>= λ x. ok (with_old (record { colls = h.old.colls; bar = x; slots = set h.old.slots b (set s o (cell_in cell)) }) h))
   unfolding store_old write_old recounted
   store_is = rw (eo, en) (chained 1 (cell_in cell) _ _ (count_out 1 (get_or s o blank) h.old.bar))
 
-  counted-old : r ≡ Ok tt → (x : Barrier) × (recounted 1 true old new h.old.bar ≡ ok x) × Image v (on_old (with_old_bar x) h)
+  counted-old : r ≡ Ok tt → (x : Barrier) × (recounted 1 old new h.old.bar ≡ ok x) × Image v (on_old (with_old_bar x) h)
   unfolding on_counts bar_of on_bar
-  counted-old e = some-barrier (λ x. on_old (with_old_bar x) h) (recounted 1 true old new h.old.bar) l e
+  counted-old e = some-barrier (λ x. on_old (with_old_bar x) h) (recounted 1 old new h.old.bar) l e
 
   pub old-there : r ≡ Ok tt → o < length s → Image v (decode v) × ((o < length (get_or (decode v).old.slots b [])) × ((length cell ≡ 3) × (whole_cells cell ≡ true)))
   unfolding with_old_bar with_old value_good
@@ -122,31 +122,31 @@ module _ {w : List ℕ} (b o : ℕ) {old new : Cell} (cell : List ℕ) {r : Resu
   unfolding on_counts bar_of on_bar
   old-refused q e =
       let (m, k) = refused-of l e in
-      left-refused q (store_is ∙ no-barrier _ _ (recounted 1 true old new h.old.bar) (number q) m) k
+      left-refused q (store_is ∙ no-barrier _ _ (recounted 1 old new h.old.bar) (number q) m) k
 
 -- in the nursery
 
-out-is : (y : Nursery) (i : ℕ) → out_young y i ≡ out_if (ltb i y.cursor) 0 (get_or y.cells i blank) y.bar
-unfolding out_young
+out-is : (y : Nursery) (i : ℕ) → out_young y i ≡ count_out 0 (gone_if (ltb i y.cursor) (get_or y.cells i blank)) y.bar
+unfolding out_young gone_if count_out blank
 out-is y i = go (ltb i y.cursor)
   where
-    go : (t : Bool) → (elim t [ true ↦ count_out 0 (get_or y.cells i blank) y.bar | false ↦ ok y.bar ]) ≡ out_if t 0 (get_or y.cells i blank) y.bar
+    go : (t : Bool) → (elim t [ true ↦ count_out 0 (get_or y.cells i blank) y.bar | false ↦ ok y.bar ]) ≡ count_out 0 (gone_if t (get_or y.cells i blank)) y.bar
     go true = refl
     go false = refl
 
-module _ {w : List ℕ} (i : ℕ) {out : Bool} {old new : Cell} (cell : List ℕ) {r : Result (Unit {0}) Question} {v : List ℕ}
-    (et : out ≡ ltb i (decode w).young.cursor) (eo : old ≡ get_or (decode w).young.cells i blank) (en : new ≡ cell_in cell) (g : value_good cell ≡ true)
-    (l : Leaves (on_counts 0 (recounted 0 out old new) (decode w)) w r v) where
+module _ {w : List ℕ} (i : ℕ) {old new : Cell} (cell : List ℕ) {r : Result (Unit {0}) Question} {v : List ℕ}
+    (eo : old ≡ gone_if (ltb i (decode w).young.cursor) (get_or (decode w).young.cells i blank)) (en : new ≡ cell_in cell) (g : value_good cell ≡ true)
+    (l : Leaves (on_counts 0 (recounted 0 old new) (decode w)) w r v) where
   abbrev hy : Heap
   hy = decode w
 
-  young-is : store_young i (cell_in cell) hy ≡ (recounted 0 out old new hy.young.bar >>= λ x. ok (with_young (with_cell i (cell_in cell) (with_bar x hy.young)) hy))
+  young-is : store_young i (cell_in cell) hy ≡ (recounted 0 old new hy.young.bar >>= λ x. ok (with_young (with_cell i (cell_in cell) (with_bar x hy.young)) hy))
   unfolding store_young write_young recounted with_cell with_bar
-  young-is = rw (et, eo, en, out-is hy.young i) (chained 0 (cell_in cell) _ _ (out_if (ltb i hy.young.cursor) 0 (get_or hy.young.cells i blank) hy.young.bar))
+  young-is = rw (eo, en, out-is hy.young i) (chained 0 (cell_in cell) _ _ (count_out 0 (gone_if (ltb i hy.young.cursor) (get_or hy.young.cells i blank)) hy.young.bar))
 
-  counted-young : r ≡ Ok tt → (x : Barrier) × (recounted 0 out old new hy.young.bar ≡ ok x) × Image v (on_young (with_bar x) hy)
+  counted-young : r ≡ Ok tt → (x : Barrier) × (recounted 0 old new hy.young.bar ≡ ok x) × Image v (on_young (with_bar x) hy)
   unfolding on_counts bar_of on_bar
-  counted-young e = some-barrier (λ x. on_young (with_bar x) hy) (recounted 0 out old new hy.young.bar) l e
+  counted-young e = some-barrier (λ x. on_young (with_bar x) hy) (recounted 0 old new hy.young.bar) l e
 
   pub young-there : r ≡ Ok tt → i < hy.size.n → Image v (decode v) × ((i < (decode v).size.n) × ((length cell ≡ 3) × (whole_cells cell ≡ true)))
   unfolding with_young value_good
@@ -160,7 +160,7 @@ module _ {w : List ℕ} (i : ℕ) {out : Bool} {old new : Cell} (cell : List ℕ
   unfolding on_counts bar_of on_bar
   young-refused q e =
       let (m, k) = refused-of l e in
-      left-refused q (young-is ∙ no-barrier _ _ (recounted 0 out old new hy.young.bar) (number q) m) k
+      left-refused q (young-is ∙ no-barrier _ _ (recounted 0 old new hy.young.bar) (number q) m) k
 
 -- by the place
 

@@ -11,13 +11,9 @@ use Rattle.theorems.specs.Fit.{Image}
 use Rattle.theorems.specs.Does.{with_young, with_old}
 use Rattle.fields.specs.Fields.{bar_of, on_bar, with_count}
 
-abbrev pub out_if : Bool → ℕ → Cell → Barrier → Res Barrier
-out_if true own c b = count_out own c b
-out_if false own c b = ok b
-
--- the old cell counted out, if it is, then the new one in
-unfoldable pub recounted : ℕ → Bool → Cell → Cell → Barrier → Res Barrier
-recounted own out old new b = out_if out own old b >>= count_in own new
+-- the old cell counted out, then the new one in
+unfoldable pub recounted : ℕ → Cell → Cell → Barrier → Res Barrier
+recounted own old new b = count_out own old b >>= count_in own new
 
 -- what is counted out: without the old cell, one that does not count
 unfoldable pub gone_if : Bool → Cell → Cell

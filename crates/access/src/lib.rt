@@ -5,7 +5,7 @@
 mod counts;
 pub mod places;
 
-ghost use Rattle.std.specs.Prelude.{◌≡◌, true, [], ◌<◌, length, get_or};
+ghost use Rattle.std.specs.Prelude.{◌≡◌, true, [], ◌<◌, length, get_or, ltb};
 ghost use Rattle.std.specs.Int.{w64};
 ghost use Rattle.std.proofs.Common.{of_z};
 ghost use Rattle.model.specs.Records.{blank, cell_of, valid_words};
@@ -18,7 +18,7 @@ ghost use Rattle.value.specs.Value.{value_cell};
 ghost use Rattle.trace.specs.Words.{pointer};
 ghost use Rattle.fields.specs.Fields.{cell_in};
 ghost use Rattle.access.specs.Access.{pointer_of, stored_outcome, ValueOf, Loads, LoadsFrom};
-ghost use Rattle.access.specs.Counting.{store_young, store_old, Leaves};
+ghost use Rattle.access.specs.Counting.{gone_if, store_young, store_old, Leaves};
 
 use image::formed::Formed;
 use question::Question;
@@ -83,28 +83,32 @@ fn new_value(cell: &[u64]) -> Value
     requires { value_good cell.now ≡ true }
     ensures { value_cell result ≡ cell_in cell.now }
 {
-    let new = Words {
-        tag: cell[0],
-        payload: cell[1],
-        offset: cell[2],
-    };
-    new.value()
+    Words::at(cell, 0).value()
 }
 
 // ---- In the nursery
 
-// The cell takes the place of the i-th, which counts only below the cursor.
+// What is counted out for the i-th cell: its value, but above the cursor nothing counts.
+fn counted_value(image: Formed<'_>, i: usize) -> Value
+    requires { i < (decode image.words.now).size.n }
+    ensures { value_cell result ≡ gone_if (ltb i (decode image.entry.words.now).young.cursor) (get_or (decode image.entry.words.now).young.cells i blank) }
+{
+    if (i as u64) < fields::header_of(image).cursor {
+        return young_value(image, i);
+    }
+    Value::Uninitialized
+}
+
+// The cell takes the place of the i-th.
 fn store_young(image: &mut [u64], i: usize, cell: &[u64]) -> Result<(), Question>
     requires image { Image image.old (decode image.old) }
     requires i_bound { i < (decode image.old).size.n }
     requires cell_value { value_good cell.now ≡ true }
     ensures { Leaves (store_young i (cell_in cell.now) (decode image.old)) image.old result image.new }
 {
-    let old = young_value(Formed { words: image }, i);
+    let old = counted_value(Formed { words: image }, i);
     let new = new_value(cell);
-    let end = fields::header_of(Formed { words: image }).cursor;
-    let out = (i as u64) < end;
-    counts::recount(image, 0, out, old, new)?;
+    counts::recount(image, 0, old, new)?;
     fields::put_young_cell(image, i, cell);
     Ok(())
 }
@@ -136,7 +140,7 @@ fn store_old(
     ensures { Leaves (store_old base (get_or (decode image.old).old.slots base []) offset (cell_in cell.now) (decode image.old)) image.old result image.new }
 {
     let new = new_value(cell);
-    counts::recount(image, 1, true, old, new)?;
+    counts::recount(image, 1, old, new)?;
     layout::write_elder(image, base, offset, cell);
     Ok(())
 }

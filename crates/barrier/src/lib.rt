@@ -14,11 +14,12 @@ ghost use Rattle.question.specs.Question.{answer};
 use question::Question;
 use value::Value;
 
-// The counts of an absent barrier are taken as zero, whatever the array holds.
+// The counts of an absent barrier are taken as zero, whatever the array holds. They stand first, where the barrier is aligned: each step
+// copies them.
 #[derive(Clone, Copy)]
 pub struct WriteBarrier {
-    pub present: bool,
     pub counts: [u32; 256],
+    pub present: bool,
 }
 
 impl WriteBarrier {
@@ -30,8 +31,8 @@ impl WriteBarrier {
         ensures { barrier_of result ≡ absent }
     {
         Self {
-            present: false,
             counts: [0u32; WriteBarrier::SIZE],
+            present: false,
         }
     }
 

@@ -19,13 +19,12 @@ impl Masks {
     {
         let mut places = [0u64; WriteBarrier::SIZE];
         let mut count = 0;
-        if !barrier.present {
-            return Masks { places, count };
-        }
-        for i in 0..WriteBarrier::SIZE {
-            if 0 < barrier.counts[i] {
-                places[count] = i as u64;
-                count += 1;
+        if barrier.present {
+            for i in 0..WriteBarrier::SIZE {
+                if 0 < barrier.counts[i] {
+                    places[count] = i as u64;
+                    count += 1;
+                }
             }
         }
         Masks { places, count }

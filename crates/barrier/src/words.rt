@@ -8,15 +8,13 @@ ghost use Rattle.barrier.specs.Counts.{barrier_of};
 use crate::WriteBarrier;
 
 // Count words as counts, and back.
-fn narrow(words: &[u64]) -> [u32; 256]
+fn narrow(words: &[u64], counts: &mut [u32; 256])
     requires { (length words.now ≡ cache) × (all_at_most most words.now ≡ true) }
-    ensures { result ≡ words.now }
+    ensures { counts.new ≡ words.now }
 {
-    let mut counts = [0u32; WriteBarrier::SIZE];
     for i in 0..WriteBarrier::SIZE {
         counts[i] = words[i] as u32;
     }
-    counts
 }
 
 fn widen(from: [u32; 256], words: &mut [u64])
@@ -32,13 +30,12 @@ pub fn load(flag: u64, words: &[u64]) -> WriteBarrier
     requires { (flagged flag words.now ≡ true) × (length words.now ≡ cache) }
     ensures { barrier_of result ≡ barrier flag words.now }
 {
-    if flag == 0 {
-        return WriteBarrier::new();
+    let mut b = WriteBarrier::new();
+    if flag != 0 {
+        narrow(words, &mut b.counts);
+        b.present = true;
     }
-    WriteBarrier {
-        present: true,
-        counts: narrow(words),
-    }
+    b
 }
 
 pub fn flag_word(barrier: WriteBarrier) -> u64

@@ -20,16 +20,16 @@ module _ (cs : List ℕ) where
   on zero h = absurd (h refl)
   on (suc f) h = refl
 
-pub returns-then-flag-eq0 : goal.returns-then-flag-eq0
-unfolding barrier
-returns-then-flag-eq0 c = rw c.if-flag-eq0.true c.new.ensures
-
 pub narrow-requires : goal.narrow-requires
 narrow-requires c =
     let s = c.before.before in
-    (s.requires.1, bounded s.args.words.now s.args.flag c.if-flag-eq0.false s.requires.0)
+    (s.requires.1, bounded s.args.words.now s.args.flag c.if-flag-ne0.true s.requires.0)
 
-pub returns : goal.returns
-returns c =
+pub returns-then-flag-ne0 : goal.returns-then-flag-ne0
+returns-then-flag-ne0 c =
     let a = c.args in
-    ap present c.narrow.ensures ∙ on a.words.now a.flag c.if-flag-eq0.false
+    ap present c.narrow.ensures ∙ on a.words.now a.flag c.if-flag-ne0.true
+
+pub returns-else-flag-ne0 : goal.returns-else-flag-ne0
+unfolding barrier
+returns-else-flag-ne0 c = rw c.if-flag-ne0.false c.new-b.ensures

@@ -5,14 +5,10 @@ use lib.ListN.{length, length-replicate}
 use Rattle.model.specs.Barrier.{masks}
 use Rattle.barrier.proofs.Places.{found_none, found-more, found-same, found_all}
 use Rattle.barrier.proofs.masks.Masks.of.Goals as goal
-use Rattle.barrier.proofs.masks.Masks.of.Goals.{Start, then-barrier-i-gt0, else-barrier-i-gt0}
+use Rattle.barrier.proofs.masks.Masks.of.Goals.{Start, then-barrier-i-gt0, else-barrier-i-gt0, then-barrier+else-loop-i-test, else-barrier}
 
 counts-long : (s : Start) → length s.args.barrier.counts ≡ 256
 counts-long s = search rules
-
-pub returns-then-not-barrier : goal.returns-then-not-barrier
-unfolding masks
-returns-then-not-barrier c = rw c.if-not-barrier.true
 
 pub loop-i-init : goal.loop-i-init
 loop-i-init c = found_none _ _ (length-replicate {A = ℕ} 256 0)
@@ -30,4 +26,7 @@ loop-i-preserved c =
 pub returns : goal.returns
 unfolding masks
 returns c =
-    rw c.if-not-barrier.false (found_all c.loop-i.invariant (counts-long c.before.before.before.before) c.loop-i-test.false)
+    elim c.if-barrier.branch [
+      | then-barrier+else-loop-i-test w ↦ rw (w.places-is, w.count-is, w.if-barrier.true) (found_all w.loop-i.invariant (counts-long (goal.at.returns c).Start) w.loop-i-test.false)
+      | else-barrier w ↦ rw (w.places-is, w.count-is, w.if-barrier.false)
+    ]
