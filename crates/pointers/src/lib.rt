@@ -39,14 +39,11 @@ fn swap_young(image: &mut [u64], moved: Move) -> usize
     slots::swap_cells(&mut image[from..end], n, moved)
 }
 
-// So many such cells counted on the barrier of heap `own`. Without one the barrier, 256 words long, is not loaded.
-fn count(image: &mut [u64], own: u8, k: usize, moved: Move) -> Result<(), Question>
+// So many such cells counted on the barrier of heap `own`.
+fn count_all(image: &mut [u64], own: u8, k: usize, moved: Move) -> Result<(), Question>
     requires { Image image.old (decode image.old) }
     ensures { Does (count_moved own k (move_of moved)) image.old (done_answer result) image.new }
 {
-    if k == 0 {
-        return Ok(());
-    }
     let b = changes::count_changes(
         k,
         own,
@@ -55,6 +52,17 @@ fn count(image: &mut [u64], own: u8, k: usize, moved: Move) -> Result<(), Questi
     )?;
     fields::put_barrier(image, own, b);
     Ok(())
+}
+
+// The same, but without one the barrier, 256 words long, is not loaded.
+fn count(image: &mut [u64], own: u8, k: usize, moved: Move) -> Result<(), Question>
+    requires { Image image.old (decode image.old) }
+    ensures { Does (count_moved own k (move_of moved)) image.old (done_answer result) image.new }
+{
+    if k == 0 {
+        return Ok(());
+    }
+    count_all(image, own, k, moved)
 }
 
 // In both generations, the nursery first.
