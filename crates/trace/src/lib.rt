@@ -155,11 +155,14 @@ impl Region<'_> {
         count
     }
 
-    // Enters each allocation that a mask matches.
+    // Enters each allocation that a mask matches. Without masks there is none, and the lengths are not gone through.
     fn enter_matched(self, masks: &[u64], list: &mut [u64], count: usize) -> usize
         requires { Room list.old (enter same_ptr (members count list.old) (matched self.own masks.now (places 0 self.lens.now))) }
         ensures { members result list.new ≡ enter same_ptr (members count list.old) (matched self.entry.own masks.now (places 0 self.entry.lens.now)) }
     {
+        if masks.is_empty() {
+            return count;
+        }
         let mut n = count;
         for b in 0..self.lens.len() {
             n = self.enter_base(b, masks, list, n);
