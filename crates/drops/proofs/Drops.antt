@@ -5,10 +5,12 @@ use mathlib.Core.List.{List, [], ◌∷◌, ◌++◌}
 use Prim.Native.Nat.{ℕ, suc, ◌+◌, ◌-◌, ◌*◌, ◌^◌, ◌≤◌, ◌<◌}
 use native.Mathlib.Numerals.{add-one}
 use native.Mathlib.Omega.{arith}
+use borrow.Author.Tests.{eqb-true}
 use mir.Val.{Fits}
 use mir.Syntax.{w64}
 use lib.ListN.{length, get_or, take, drop, drop_of_length-le}
 use lib.Seq.{drop-cons}
+use Rattle.std.specs.Bool.{◌==◌}
 use Rattle.std.proofs.Common.{Result, Ok, Err}
 use Rattle.model.specs.Lists.{flat, only_if}
 use Rattle.model.specs.Res.{Res, ok, refuse, ◌>>=◌, each}
@@ -51,6 +53,11 @@ slot_out ps b cs = each (count_out 1) (only_if (not (keeps ps b)) cs)
 -- whether it has cells to count out
 abbrev Counts : List Ptr → ℕ → List ℕ → Bool
 Counts ps b w = any_crossing 1 w && not (keeps ps b)
+
+pub empty-stays : (ps : List Ptr) (b : ℕ) (w : List ℕ) → true ≡ (length w == 0) → false ≡ Counts ps b w
+unfolding any_crossing
+empty-stays ps b [] e = refl
+empty-stays ps b (x ∷ w) e = absurd (omega (arith, eqb-true (length (x ∷ w)) 0 (sym e)))
 
 pub quiet-stays : (ps : List Ptr) (b : ℕ) (w : List ℕ) {r : Bool} → r ≡ any_crossing 1 w → r ≡ false → false ≡ Counts ps b w
 quiet-stays ps b w e q = rw (← e, q)

@@ -18,6 +18,10 @@ fn is_counted(slot: &[u64], b: usize, members: &[u64]) -> bool
     requires { whole_cells slot.now ≡ true }
     ensures { result ≡ (any_crossing 1 slot.now && not (keeps (listed members.now) b)) }
 {
+    // Most bases have no allocation, and cost this test alone: without it a report of the largest heap takes a third longer.
+    if slot.is_empty() {
+        return false;
+    }
     if cells::any_crosses(slot, 1) {
         let m = Member {
             base: b as u64,
