@@ -17,9 +17,9 @@ fn narrow(words: &[u64], counts: &mut [u32; 256])
     }
 }
 
-fn widen(from: [u32; 256], words: &mut [u64])
+fn widen(from: &[u32; 256], words: &mut [u64])
     requires { length words.old ≡ cache }
-    ensures { words.new ≡ from }
+    ensures { words.new ≡ from.now }
 {
     for i in 0..WriteBarrier::SIZE {
         words[i] = from[i] as u64;
@@ -50,7 +50,7 @@ pub fn store(barrier: WriteBarrier, words: &mut [u64])
     ensures { words.new ≡ counts (barrier_of barrier) }
 {
     if barrier.present {
-        widen(barrier.counts, words);
+        widen(&barrier.counts, words);
     } else {
         words.fill(0);
     }

@@ -8,7 +8,7 @@ use Rattle.barrier.proofs.words.widen.Goals as goal
 use Rattle.barrier.proofs.words.widen.Goals.{Start}
 
 -- both lists have 256 elements
-from-long : (s : Start) → length s.args.from ≡ 256
+from-long : (s : Start) → length s.args.from.now ≡ 256
 from-long s = search rules
 
 pub loop-i-init : goal.loop-i-init
