@@ -4,7 +4,7 @@ ghost use Rattle.model.specs.Lists.{all_at_most};
 ghost use Rattle.model.specs.Image.{flagged};
 
 // The bound of each count and counter.
-pub const MOST: u64 = 4294967295;
+pub const MOST: u64 = u32::MAX as u64;
 
 // Is each word at most m?
 pub fn at_most(m: u64, words: &[u64]) -> bool

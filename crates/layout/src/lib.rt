@@ -58,10 +58,10 @@ fn fit_in(lens: &[u64], c: usize, len: usize) -> Result<usize, Question>
     ensures { fit_answer result ≡ fit_words lens.now c len }
 {
     let b = slots::held(lens);
-    if lens.len() <= b {
+    let Some(old) = lens.get(b) else {
         return Err(Question::Room);
-    }
-    let used = slots::in_use(lens) - lens[b] as usize;
+    };
+    let used = slots::in_use(lens) - *old as usize;
     if c - used < len {
         return Err(Question::Room);
     }

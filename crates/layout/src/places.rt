@@ -6,7 +6,7 @@ ghost use Rattle.layout.specs.Places.{Laid};
 use image::layout;
 
 // Sizes, and the places of the regions: the counts of both barriers, the nursery's first; lengths and slots; the nursery's
-// cells and the elder's.
+// cells and the elder's. All of them stand here, also those that only `Laid` reads.
 #[derive(Clone, Copy)]
 pub struct Layout {
     pub n: usize,
@@ -19,8 +19,8 @@ pub struct Layout {
     pub old: usize,
 }
 
-// The parts of the image whose layout it is, as they are read.
-// One that is written is cut by its writer: a method that lent it would need a starred clause on what comes back.
+// The parts of the image whose layout it is, as they are read. It is handed in, and not held: a layout is kept while its image is written,
+// and a part that is written is cut by its writer, since a method that lent it would need a clause on what comes back.
 impl Layout {
     // The nursery's lengths.
     pub fn young_lengths(self, image: &[u64]) -> &[u64]
