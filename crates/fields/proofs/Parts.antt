@@ -17,7 +17,7 @@ use Rattle.theorems.proofs.Parts.{start_of, part_at, part-put, header, parts_of,
 use Rattle.image.specs.Places.{size_n, size_s, young_counts_at, old_counts_at, lengths_at, slot_lengths_at, Sized}
 use Rattle.image.proofs.Bounds.{is-sized}
 use Rattle.fields.specs.Fields.{Reads, YoungCells}
-use Rattle.fields.specs.declared.Part.{Part}
+use Rattle.std.specs.declared.ops.Range.{Range}
 
 pub cache-is : cache ≡ 256
 unfolding cache
@@ -79,14 +79,14 @@ module _ {w : List ℕ} {h : Heap} (i : Image w h) where
       let f = fit-shape h i.fit in
       record { inside = omega arith; from = omega (arith, f.young_counts, f.old_counts, cache-is); size = omega (arith, f.lens, n-is) }
 
-  young-cells-stand : (p : Part) → YoungCells w p → Stands h 5 p.from (p.end - p.from)
+  young-cells-stand : (p : Range ℕ) → YoungCells w p → Stands h 5 p.start (p.end - p.start)
   unfolding parts_of header sum regions_of
   young-cells-stand p y =
       let f = fit-shape h i.fit in
       record {
         inside = omega arith;
-        from = omega (arith, f.young_counts, f.old_counts, f.lens, f.slot_lens, cache-is, n-is, s-is, y.from);
-        size = omega (arith, f.young_cells, n-is, y.from, y.end);
+        from = omega (arith, f.young_counts, f.old_counts, f.lens, f.slot_lens, cache-is, n-is, s-is, y.start);
+        size = omega (arith, f.young_cells, n-is, y.start, y.end);
       }
 
   module _ {k a m : ℕ} (s : Stands h k a m) where
@@ -108,7 +108,7 @@ module _ {w : List ℕ} {h : Heap} (i : Image w h) where
   unfolding parts_of
   lengths to e = part-is (lengths-stand to e)
 
-  pub young-cells : (p : Part) → YoungCells w p → take (p.end - p.from) (drop p.from w) ≡ cell_words h.young.cells
+  pub young-cells : (p : Range ℕ) → YoungCells w p → take (p.end - p.start) (drop p.start w) ≡ cell_words h.young.cells
   unfolding parts_of
   young-cells p y = part-is (young-cells-stand p y)
 
@@ -123,5 +123,5 @@ module _ {w : List ℕ} {h : Heap} (i : Image w h) where
     pub lengths-put : (to : ℕ) → to ≡ slot_lengths_at (size_n w) → put_mid lengths_at (to - lengths_at) w ys ≡ flat (set (parts_of h) 3 ys)
     lengths-put to e = put_is (lengths-stand to e) ys
 
-    pub young-cells-put : (p : Part) → YoungCells w p → put_mid p.from (p.end - p.from) w ys ≡ flat (set (parts_of h) 5 ys)
+    pub young-cells-put : (p : Range ℕ) → YoungCells w p → put_mid p.start (p.end - p.start) w ys ≡ flat (set (parts_of h) 5 ys)
     young-cells-put p y = put_is (young-cells-stand p y) ys

@@ -30,7 +30,7 @@ use Rattle.value.specs.declared.Words.{Words}
 use Rattle.value.specs.Value.{words_at}
 use Rattle.image.specs.Places.{size_n, young_counts_at, old_counts_at, lengths_at, slot_lengths_at, young_cells_at, old_cells_at}
 use Rattle.fields.specs.Fields.{Reads, Turns, on_young, on_old, with_bar, with_old_bar, bar_of, on_bar, is_present, with_cell, restarted, collected_once, cell_in, words_of, YoungCells}
-use Rattle.fields.specs.declared.Part.{Part}
+use Rattle.std.specs.declared.ops.Range.{Range}
 use Rattle.fields.proofs.Parts.{decoded, sized-in, n-is, n-read, s_read, young-counts-put, old-counts-put, lengths-put, young-cells-put, lengths, young-cells}
 
 -- one operation after the other
@@ -102,28 +102,28 @@ cell-words-at (c ∷ cs) (suc i) h =
     let e₂ : suc (suc (suc (3 * i))) + 2 ≡ suc (suc (suc (3 * i + 2))) = omega arith in
     rw (e₀, e₁, e₂, words-cons c cs) (cell-words-at cs i (le_of_suc-le-suc h))
 
-pub part-found : {w : List ℕ} {n s : ℕ} (p : Part) → Image w (decode w) → Reads (λ h. h.size.n) w n → Reads (λ h. h.size.s) w s
-    → p.from ≡ young_cells_at n s → p.end ≡ old_cells_at n s → YoungCells w p
+pub part-found : {w : List ℕ} {n s : ℕ} (p : Range ℕ) → Image w (decode w) → Reads (λ h. h.size.n) w n → Reads (λ h. h.size.s) w s
+    → p.start ≡ young_cells_at n s → p.end ≡ old_cells_at n s → YoungCells w p
 part-found p i a b e f =
     let x = n-read i a in
     let y = s_read i b in
     let z = sized-in i in
-    record { from = omega arith; end = omega arith; inside = omega arith }
+    record { start = omega arith; end = omega arith; inside = omega arith }
 
-module _ {w : List ℕ} (p : Part) (y : YoungCells w p) (i : ℕ) (small : i < (decode w).size.n) where
+module _ {w : List ℕ} (p : Range ℕ) (y : YoungCells w p) (i : ℕ) (small : i < (decode w).size.n) where
   below : {h : Heap} → Image w h → i < length h.young.cells
   below g = omega (arith, g.fit.young.cells, ap (λ (h : Heap). h.size.n) (image-decode g))
 
-  pub cell_room : Image w (decode w) → i * 3 + 3 ≤ length (take (p.end - p.from) (drop p.from w))
+  pub cell_room : Image w (decode w) → i * 3 + 3 ≤ length (take (p.end - p.start) (drop p.start w))
   cell_room g = rw (young-cells g p y) (omega (arith, words-length (decode w).young.cells, below g))
 
-  pub cell-read : (r : Words) → r ≡ words_at (take (p.end - p.from) (drop p.from w)) (3 * i) → Reads (λ h. cell_words (get_or h.young.cells i blank ∷ [])) w (words_of r)
+  pub cell-read : (r : Words) → r ≡ words_at (take (p.end - p.start) (drop p.start w)) (3 * i) → Reads (λ h. cell_words (get_or h.young.cells i blank ∷ [])) w (words_of r)
   cell-read r a = record {
     reads = λ h g. sym (cell-words-at h.young.cells i (below g)) ∙ rw (a, young-cells g p y);
   }
 
-  pub cell-put : (cell : List ℕ) {ys : List ℕ} → length cell ≡ 3 → whole_cells cell ≡ true → ys ≡ paste (take (p.end - p.from) (drop p.from w)) (3 * i) cell (length cell)
-      → Turns (on_young (with_cell i (cell_in cell))) w (put_mid p.from (p.end - p.from) w ys)
+  pub cell-put : (cell : List ℕ) {ys : List ℕ} → length cell ≡ 3 → whole_cells cell ≡ true → ys ≡ paste (take (p.end - p.start) (drop p.start w)) (3 * i) cell (length cell)
+      → Turns (on_young (with_cell i (cell_in cell))) w (put_mid p.start (p.end - p.start) w ys)
   unfolding parts_of header flat with_young with_cell
   cell-put cell {ys} l e q = record {
     turns = λ h g.

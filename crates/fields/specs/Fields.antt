@@ -7,7 +7,7 @@ use Rattle.theorems.specs.Fit.{Image}
 use Rattle.theorems.specs.Does.{with_young, with_old}
 use Rattle.value.specs.declared.Words.{Words}
 use Rattle.image.specs.Places.{size_n, size_s, young_counts_at, old_counts_at, young_cells_at, old_cells_at}
-use Rattle.fields.specs.declared.Part.{Part}
+use Rattle.std.specs.declared.ops.Range.{Range}
 
 -- r is what f says of the heap
 pub record Reads {A : Type 0} (f : Heap → A) (w : List ℕ) (r : A) : Type 0 where
@@ -77,7 +77,7 @@ abbrev pub words_of : Words → List ℕ
 words_of r = r.tag ∷ r.payload ∷ r.offset ∷ []
 
 -- where the nursery's cells stand
-pub record YoungCells (w : List ℕ) (p : Part) : Type 0 where
-  pub from : p.from ≡ young_cells_at (size_n w) (size_s w)
+pub record YoungCells (w : List ℕ) (p : Range ℕ) : Type 0 where
+  pub start : p.start ≡ young_cells_at (size_n w) (size_s w)
   pub end : p.end ≡ old_cells_at (size_n w) (size_s w)
   pub inside : p.end ≤ length w

@@ -14,6 +14,7 @@ ghost use Rattle.fields.specs.Fields.{Reads, Turns, on_young, on_old, with_bar, 
 use barrier::WriteBarrier;
 use image::formed::Formed;
 use image::layout;
+use std::ops::Range;
 use value::Words;
 
 // The sizes, the nursery's cursor and counters, and the elder's counter.
@@ -116,31 +117,20 @@ pub fn put_count(image: &mut [u64], own: u8, k: usize, n: u64)
 }
 
 // Where the nursery's cells stand.
-#[derive(Clone, Copy)]
-struct Part {
-    from: usize,
-    end: usize,
-}
-
-fn young_part(image: Formed<'_>) -> Part
+fn young_part(image: Formed<'_>) -> Range<usize>
     ensures { YoungCells image.entry.words.now result }
 {
     let h = header_of(image);
     let n = h.n as usize;
     let s = h.s as usize;
-    let from = layout::young_cells(n, s);
-    let end = layout::old_cells(n, s);
-    Part { from, end }
+    layout::young_cells(n, s)..layout::old_cells(n, s)
 }
 
 pub fn young_cell(image: Formed<'_>, i: usize) -> Words
     requires { i < (decode image.words.now).size.n }
     ensures { Reads (λ h. cell_words (get_or h.young.cells i blank ∷ [])) image.entry.words.now (words_of result) }
 {
-    let p = young_part(image);
-    let from = p.from;
-    let end = p.end;
-    Words::at(&image.words[from..end], i)
+    Words::at(&image.words[young_part(image)], i)
 }
 
 pub fn put_young_cell(image: &mut [u64], i: usize, cell: &[u64])
@@ -149,10 +139,8 @@ pub fn put_young_cell(image: &mut [u64], i: usize, cell: &[u64])
     requires cell_len { (length cell.now ≡ 3) × (whole_cells cell.now ≡ true) }
     ensures { Turns (on_young (with_cell i (cell_in cell.now))) image.old image.new }
 {
-    let p = young_part(Formed { words: image });
-    let from = p.from;
-    let end = p.end;
-    words::copy_words(&mut image[from..end], 3 * i, cell);
+    let part = young_part(Formed { words: image });
+    words::copy_words(&mut image[part], 3 * i, cell);
 }
 
 // One more allocation, at the cursor.

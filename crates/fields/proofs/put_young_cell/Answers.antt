@@ -11,9 +11,9 @@ overflow_mul-i c =
 pub copy_words-requires : goal.copy_words-requires
 copy_words-requires c =
     let pre = c.requires in
-    omega (arith, cell_room _ c.young_part-p.ensures c.args.i pre.i_bound pre.image, pre.cell_len.0)
+    omega (arith, cell_room _ c.young_part-part.ensures c.args.i pre.i_bound pre.image, pre.cell_len.0)
 
 pub returns : goal.returns
 returns c =
     let pre = c.requires in
-    cell-put _ c.young_part-p.ensures c.args.i pre.i_bound _ pre.cell_len.0 pre.cell_len.1 c.copy_words.ensures
+    cell-put _ c.young_part-part.ensures c.args.i pre.i_bound _ pre.cell_len.0 pre.cell_len.1 c.copy_words.ensures

@@ -3,8 +3,8 @@ use Rattle.fields.proofs.Parts.{sized-in, n-read, s_read}
 use Rattle.fields.proofs.Turned.{part-found}
 use Rattle.fields.proofs.young_part.Goals as goal
 
-pub young_cells-from-requires : goal.young_cells-from-requires
-young_cells-from-requires c =
+pub young_cells-requires : goal.young_cells-requires
+young_cells-requires c =
     let pre = c.args.image.formed in
     let n = c.header_of-h.ensures.n in
     let s = c.header_of-h.ensures.s in
@@ -13,8 +13,8 @@ young_cells-from-requires c =
     let b = s_read pre s in
     (omega arith, omega arith)
 
-pub old_cells-end-requires : goal.old_cells-end-requires
-old_cells-end-requires c =
+pub old_cells-requires : goal.old_cells-requires
+old_cells-requires c =
     let pre = c.args.image.formed in
     let n = c.header_of-h.ensures.n in
     let s = c.header_of-h.ensures.s in
@@ -28,4 +28,4 @@ returns c =
     let pre = c.args.image.formed in
     let n = c.header_of-h.ensures.n in
     let s = c.header_of-h.ensures.s in
-    part-found _ pre n s c.young_cells-from.ensures c.old_cells-end.ensures
+    part-found _ pre n s c.young_cells.ensures c.old_cells.ensures
