@@ -65,9 +65,6 @@ pub record Seeking (own : ℕ) (w : List ℕ) (n : ℕ) (r : List ℕ) : Type 0 
   pub rest : any_crossing own r ≡ any_crossing own w
 
 module _ (own : ℕ) (w : List ℕ) where
-  pub seek-begin : whole_cells w ≡ true → Seeking own w 3 w
-  seek-begin h = record { size = refl; cells = h; rest = refl }
-
   module _ {n : ℕ} {r : List ℕ} (s : Seeking own w n r) where
     pub seek-ended : length r < n → false ≡ any_crossing own w
     unfolding any_crossing

@@ -7,7 +7,8 @@ ghost use Rattle.barrier.specs.Counts.{barrier_of};
 
 use crate::WriteBarrier;
 
-// Count words as counts, and back.
+// Count words as counts, and back, where they stand: an array made anew would be copied. By index: nothing is known of what `zip` of an
+// `iter_mut` has written.
 fn narrow(words: &[u64], counts: &mut [u32; 256])
     requires { (length words.now ≡ cache) × (all_at_most most words.now ≡ true) }
     ensures { counts.new ≡ words.now }

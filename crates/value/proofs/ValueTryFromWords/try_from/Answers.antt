@@ -7,9 +7,6 @@ pub returns-then-not-is_valid : goal.returns-then-not-is_valid
 unfolding cell_asked
 returns-then-not-is_valid c = record { cell = rw (sym c.is_valid.ensures ∙ c.if-not-is_valid.true); whole = tt; ranged = tt }
 
-pub value-requires : goal.value-requires
-value-requires c = sym c.is_valid.ensures ∙ c.if-not-is_valid.false
-
 pub returns : goal.returns
 unfolding cell_asked
 returns c =
