@@ -1,6 +1,6 @@
 // The heap for C: a slice is a pointer and a count, an array a pointer. Every function but the first two answers 0, or the
 // number of the question that got a no; then nothing has changed, `out` neither. The functions named `_formed` take an image that 1 and
-// 2 were asked of, and ask neither.
+// 2 were asked of, and ask neither. That both stand here, in twos, is the C interface (include/heap.h).
 #![tactic(auto)]
 
 ghost use Rattle.std.specs.Prelude.{◌≡◌, ◌&&◌, List, [], ◌∷◌, ℕ, leb, length};
