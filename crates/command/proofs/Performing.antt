@@ -34,24 +34,3 @@ first_below r rs e = let (few, rest) = and_parts (leb r 15) (all_at_most 15 rs) 
 pub new-refused : (z : Sizes) {w : List ℕ} {r r' : Registers} {a : Result Answer Question} → Held w → Good r → 0 < length w → (a ≡ Err Heap) × (r' ≡ r) → Acts (new z) w r a w r'
 unfolding step
 new-refused z {w} {r} h g pos = refuses Heap h g (rw (heap-there w r pos))
-
--- a command that is no `new`
-pub not_new : (x : command.Command) → ((n t s c : ℕ) → x ≡ variants.New n t s c → ⊥) → is_new (model_command x) ≡ true → ⊥
-not_new (variants.New n t s c) h e = h n t s c (λ i. variants.New n t s c)
-not_new (variants.Alloc r a) h e = false≢true e
-not_new (variants.Set r a b o) h e = false≢true e
-not_new (variants.Load a) h e = false≢true e
-not_new (variants.Store a) h e = false≢true e
-not_new variants.Report h e = false≢true e
-not_new (variants.Figure r) h e = false≢true e
-
-pub heap-lent : (k : ℕ) (buffer : List ℕ) → k ≤ length buffer → (k ≡ 0 → ⊥) → 0 < length (take k buffer)
-heap-lent k buffer l h = omega (arith, length-take-le k buffer l)
-
--- a state of no words is heapless
-
-pub heapless-performs : {c : Command} {buffer buffer' : List ℕ} {s s' : State} {a : Result Answer Question} → s.words ≡ 0 → Performs c buffer (heapless s.registers) a buffer' s' → Performs c buffer s a buffer' s'
-heapless-performs {c} {buffer} {buffer'} {s} {s'} {a} e = subst (λ (x : State). Performs c buffer x a buffer' s') (λ i. record { words = sym e i; registers = s.registers })
-
-pub heapless-stays : {c : Command} {buffer buffer' : List ℕ} {s : State} {a : Result Answer Question} → s.words ≡ 0 → Performs c buffer (heapless s.registers) a buffer' (heapless s.registers) → Performs c buffer s a buffer' s
-heapless-stays {c} {buffer} {buffer'} {s} {a} e = subst (λ (x : State). Performs c buffer x a buffer' x) (λ i. record { words = sym e i; registers = s.registers })

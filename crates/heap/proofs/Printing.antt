@@ -1,10 +1,10 @@
 -- What was handed on and what is left are together as long as the listing.
-use mathlib.Core.Path.{◌≡◌, ap, ◌∙◌, sym}
-use mathlib.Core.Bool.{true, false, false≢true}
+use mathlib.Core.Path.{◌≡◌, ap, sym}
+use mathlib.Core.Bool.{true}
 use mathlib.Core.List.{List}
 use Prim.Native.Nat.{ℕ, ◌+◌, ◌*◌, ◌^◌, ◌≤◌, ◌<◌}
 use native.Mathlib.Omega.{arith}
-use lib.ListN.{length, take, length-append}
+use lib.ListN.{length, take}
 use lib.Seq.{length-take-le}
 use Rattle.model.specs.Listing.{longest_file, listing}
 use Rattle.listing.specs.declared.Run.{Run}
@@ -29,18 +29,6 @@ module _ {file image : List ℕ} {run : Run} {len : ℕ} (p : Printing file imag
     pub print-fits : length file ≤ longest_file + 1 → len + length (take used out) < 2 ^ 64
     unfolding longest_file
     print-fits short = omega (arith, p.few, f.inside, length-take-le used out f.inside)
-
-    pub print-more : {end : ℕ} → end ≡ len + length (take used out) → Printing file image' run' end
-    print-more e =
-        let both : length (take used out) + length (left_of file image' run') ≡ length (left_of file image run) = sym (length-append (take used out) (left_of file image' run')) ∙ ap length f.listed in
-        record {
-          going = f.going;
-          counted = omega (arith, e, both, p.counted);
-          few = omega (arith, e, p.few, f.inside, f.further h, length-take-le used out f.inside);
-        }
-
-  pub print-stopped : Prints file len false
-  print-stopped = record { most = omega (arith, p.counted); all = λ e. absurd (false≢true e) }
 
   pub print-done : length file ≤ run.at → Prints file len true
   print-done h =

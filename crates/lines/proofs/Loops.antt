@@ -5,7 +5,7 @@ use Prim.Native.Nat.{ℕ, ◌+◌, ◌-◌, ◌*◌, ◌≤◌, ◌<◌}
 use native.Mathlib.Numerals.{add-one}
 use native.Mathlib.Omega.{arith}
 use lib.ListN.{length, get_or, take, drop, length-append}
-use lib.Seq.{drop-drop, take_all, take-suc}
+use lib.Seq.{drop-drop, take-suc}
 use Rattle.model.specs.Listing.{decimal, spaced}
 use Rattle.figure.specs.Written.{written, Wrote}
 use Rattle.figure.proofs.Digits.{decimal-length}
@@ -50,6 +50,3 @@ module _ {n out₀ : List ℕ} {at : ℕ} {out : List ℕ} {end i : ℕ} (v : Sp
     short = omega (arith, v.short, w.behind, spaced-length (get_or n i 0 ∷ []));
     done = rw (add-one i, take-suc n i 0 l, spaced-both (take i n) (get_or n i 0 ∷ [])) (wrote-both v.done w);
   }
-
-  pub space-done : length n ≤ i → Wrote (spaced n) out₀ at out end
-  space-done h = rw (take_all i n h) at v.done

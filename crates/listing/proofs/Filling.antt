@@ -1,15 +1,14 @@
 -- Whole lines one behind the other in `out`.
-use mathlib.Core.Path.{◌≡◌, refl}
-use mathlib.Core.Logic.{◌⊎◌, inl, inr, ⊎_elim}
+use mathlib.Core.Path.{◌≡◌}
+use mathlib.Core.Logic.{◌⊎◌, inr}
 use mathlib.Core.List.{List, ◌++◌, append_assoc}
-use Prim.Native.Nat.{ℕ, ◌+◌, ◌≤◌, ◌<◌}
+use Prim.Native.Nat.{ℕ, ◌≤◌, ◌<◌}
 use native.Mathlib.Omega.{arith}
 use lib.ListN.{length, take}
 use Rattle.figure.specs.Written.{Wrote}
 use Rattle.figure.proofs.Writes.{take-written}
-use Rattle.lines.specs.Longest.{longest_line}
 use Rattle.listing.specs.declared.Run.{Run}
-use Rattle.listing.specs.Left.{left_of, Going, Advances, Fills}
+use Rattle.listing.specs.Left.{left_of, Going, Advances}
 
 -- a text that was written ends what is used
 take-wrote : {text out out' : List ℕ} {at end : ℕ} → Wrote text out at out' end → take end out' ≡ take at out ++ text
@@ -23,9 +22,6 @@ pub record Filling (file buffer₀ : List ℕ) (r : Run) (buffer : List ℕ) (ne
   pub begun : (used ≡ 0) ⊎ (r.at < next.at)
   pub going : Going file buffer next
 
-pub fill_none : {file buffer out : List ℕ} {r : Run} → Going file buffer r → Filling file buffer r buffer r out 0
-fill_none g = record { inside = omega arith; listed = refl; from = omega arith; begun = inl refl; going = g }
-
 module _ {file buffer₀ buffer out : List ℕ} {r next : Run} {used : ℕ} (f : Filling file buffer₀ r buffer next out used) where
   pub fill_more : {buffer' out' : List ℕ} {next' : Run} {end : ℕ} → length out' ≡ length out → Advances file buffer next out used buffer' next' out' end → Filling file buffer₀ r buffer' next' out' end
   fill_more {buffer' = buffer'} {next' = next'} l a = record {
@@ -34,13 +30,4 @@ module _ {file buffer₀ buffer out : List ℕ} {r next : Run} {used : ℕ} (f :
     from = omega (arith, f.from, a.further);
     begun = inr (omega (arith, f.from, a.further));
     going = a.going;
-  }
-
-  -- the room was enough for a line
-  pub fill_done : longest_line ≤ length out → (length file ≤ next.at) ⊎ (length out < used + longest_line) → Fills file buffer₀ r buffer next out used
-  fill_done m o = record {
-    inside = f.inside;
-    listed = f.listed;
-    further = λ h. ⊎_elim (λ z. ⊎_elim (λ (e : length file ≤ next.at). omega arith) (λ (e : length out < used + longest_line). omega arith) o) (λ e. e) f.begun;
-    going = f.going;
   }

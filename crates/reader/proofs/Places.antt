@@ -46,9 +46,6 @@ module _ (file : List ℕ) (at : ℕ) (h : at < length file) where
       lent_is : lent ≡ take k w
       lent_is = let n : at + 1 + k - (at + 1) ≡ k = omega arith in rw (n, add-one)
 
-      pub lent-known : operand_bytes opcodes op ≡ ok (length lent)
-      lent-known = rw (lent_is, length-take-le k w (omega (arith, w-length))) (sym e)
-
       module _ {m : Command} (is : m ≡ command_of op lent) where
         pub stands-high : false ≡ all_at_most 15 (registers_of m) → refuse 12 ≡ next_at file at
         unfolding next_at parse

@@ -1,11 +1,11 @@
 -- Registers and the roots' words, three words a register at each turn.
-use mathlib.Core.Path.{◌≡◌, refl, sym, ap, ◌∙◌}
+use mathlib.Core.Path.{◌≡◌, sym, ap, ◌∙◌}
 use mathlib.Core.Bool.{true}
 use mathlib.Core.List.{List, [], ◌∷◌, ◌++◌, append-nil, append_assoc}
 use Prim.Native.Nat.{ℕ, suc, ◌+◌, ◌*◌, ◌≤◌, ◌<◌}
 use native.Mathlib.Omega.{arith}
 use native.Mathlib.Numerals.{add-one}
-use lib.ListN.{length, get_or, take, drop, set, length-set, replicate, drop_of_length-le}
+use lib.ListN.{length, get_or, take, drop, set, length-set, drop_of_length-le}
 use lib.Seq.{drop-cons, append_snoc, take_all, take-suc-set}
 use Rattle.model.specs.Records.{Cell, blank, cell_words, cells_of, valid_words, whole_cells}
 use Rattle.model.specs.Calls.{cells_in}
@@ -36,9 +36,6 @@ pub record Written (cs : List Cell) (i : ℕ) (w : List ℕ) : Type 0 where
   pub within : i ≤ 16
   pub room : length w ≡ 48
   pub rest : take (3 * i) w ++ cell_words (drop i cs) ≡ cell_words cs
-
-pub written_none : (cs : List Cell) → Written cs 0 (replicate 48 0)
-written_none cs = record { within = omega arith; room = refl; rest = refl }
 
 module _ {cs : List Cell} {i : ℕ} {w : List ℕ} (l : length cs ≡ 16) (d : Written cs i w) where
   module _ (h : i < 16) {x : Cell} (is : x ≡ get_or cs i blank) {a b o : ℕ} (ws : (a ∷ b ∷ o ∷ []) ≡ cell_words (x ∷ [])) where
@@ -71,9 +68,6 @@ pub record Loaded (w : List ℕ) (s : Registers) (i : ℕ) : Type 0 where
   pub good : Good s
 
 module _ (w : List ℕ) (l : length w ≡ 48) where
-  pub loaded-none : {s : Registers} → whole_cells w ≡ true → cells_of_registers s ≡ replicate 16 blank → Good s → Loaded w s 0
-  loaded-none e is g = record { within = omega arith; room = ap length is; cells = e; rest = refl; good = g }
-
   module _ {s : Registers} {i : ℕ} (d : Loaded w s i) where
     pub loaded-all : 16 ≤ i → cells_of_registers s ≡ cells_in w
     unfolding cells_in cells_of
