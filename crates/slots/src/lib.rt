@@ -2,6 +2,7 @@
 //
 // A reading function takes the lengths and the cells' words as two slices. A writing one takes a single slice, and promises what
 // becomes of all of it: s lengths, other words up to `at`, the cells' words.
+// The slice, s and `at` are no struct: it would hold the slice by `&mut`, and that it is an elder's is so only between its writes.
 #![tactic(auto)]
 
 ghost use Rattle.std.specs.Prelude.{◌≡◌, true, [], map, ◌+◌, ◌-◌, ◌*◌, ◌^◌, ◌≤◌, ◌<◌, length, get_or, take, set, replicate};
