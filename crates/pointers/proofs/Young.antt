@@ -63,9 +63,9 @@ module _ {w : List ℕ} {l : Layout} (p : Laid w l) {k : ℕ} (at-cursor : Reads
     abbrev cs : List Cell
     cs = h.young.cells
 
-    stand : YoungCells w (record { from = l.young; end = l.old })
+    stand : YoungCells w (record { start = l.young; end = l.old })
     unfolding sizes_of
-    stand = let long = (sized-in i).long in record { from = omega arith; end = omega arith; inside = omega arith }
+    stand = let long = (sized-in i).long in record { start = omega arith; end = omega arith; inside = omega arith }
 
     few : k ≤ length cs
     few = let c = cursor-le h.young.cursor h.size.n i.fit.young.cursor in omega (arith, at-cursor.reads h i)
