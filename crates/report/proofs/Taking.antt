@@ -10,20 +10,21 @@ use borrow.Author.Tests.{leb-true}
 use Rattle.model.specs.Lists.{places, sum, all_at_most}
 use Rattle.model.specs.Barrier.{Barrier, cache, most, counts}
 use Rattle.model.specs.Heap.{Heap, held, in_use}
-use Rattle.model.specs.Image.{decode}
+use Rattle.model.specs.Image.{Regions, regions, decode}
 use Rattle.model.specs.Collector.{statistics}
 use Rattle.theorems.specs.Fit.{FitBarrier, Image}
 use Rattle.theorems.proofs.Lists.{and_left, and_right}
+use Rattle.theorems.proofs.Image.{regions_of, encode-regions}
 use Rattle.theorems.proofs.Regions.{lengths-sum}
 use Rattle.theorems.proofs.Tiles.{cursor-le}
-use Rattle.image.specs.Places.{size_n, young_counts_at, old_counts_at, lengths_at, slot_lengths_at}
+use Rattle.image.specs.Places.{young_counts_at, old_counts_at}
 use Rattle.slots.proofs.Counts.{held-places}
-use Rattle.layout.specs.Places.{Laid}
+use Rattle.layout.specs.Places.{Laid, regions_at}
 use Rattle.layout.specs.declared.places.Layout.{Layout}
 use Rattle.layout.proofs.Tail.{lens-lent}
 use Rattle.image.proofs.Bounds.{bounded}
 use Rattle.fields.specs.Fields.{Reads, bar_of}
-use Rattle.fields.proofs.Parts.{n-read, young-counts, old-counts, lengths}
+use Rattle.fields.proofs.Parts.{young-counts, old-counts}
 use Rattle.report.specs.Numbers.{young_numbers, old_numbers, numbers}
 use Rattle.report.specs.declared.Nursery.{Nursery}
 use Rattle.report.specs.declared.Elder.{Elder}
@@ -69,12 +70,15 @@ module _ {w : List ℕ} where
   lent-sum own l e = record { reads = λ h i. sym (e ∙ ap sum (l h i)) }
 
   -- the nursery's lengths
-  pub young-held : {n to r : ℕ} → Reads (λ h. h.size.n) w n → to ≡ slot_lengths_at n → r ≡ length (places 0 (take (to - lengths_at) (drop lengths_at w))) → Reads (λ h. length (places 0 h.young.lens)) w r
-  young-held {n} {to} s e k = record {
-    reads = λ h i.
-        let end : to ≡ slot_lengths_at (size_n w) = omega (arith, n-read i s) in
-        sym (k ∙ ap (λ (l : List ℕ). length (places 0 l)) (lengths i to end));
-  }
+  module _ {l : Layout} (p : Laid w l) where
+    young-lens : {h : Heap} → Image w h → take (l.slots - l.lens) (drop l.lens w) ≡ h.young.lens
+    unfolding regions_at regions_of
+    young-lens {h} i =
+        let e : l.slots - l.lens ≡ l.n = omega (arith, p.slots) in
+        rw e (ap (λ (r : Regions). r.lens) (sym p.parts ∙ ap regions i.is ∙ encode-regions h i.fit))
+
+    pub young-held : {part : List ℕ} {r : ℕ} → part ≡ take (l.slots - l.lens) (drop l.lens w) → r ≡ length (places 0 part) → Reads (λ h. length (places 0 h.young.lens)) w r
+    young-held e k = record { reads = λ h i. sym (k ∙ ap (λ (x : List ℕ). length (places 0 x)) (e ∙ young-lens i)) }
 
   pub cursor-within : {n cursor : ℕ} → Reads (λ h. h.size.n) w n → Reads (λ h. h.young.cursor) w cursor → Image w (decode w) → cursor ≤ n
   cursor-within n c i = omega (arith, n.reads _ i, c.reads _ i, cursor-le _ _ i.fit.young.cursor)

@@ -71,8 +71,8 @@ impl From<Statistics> for [u64; 11] {
 fn young_allocations(image: Formed<'_>) -> u64
     ensures { Reads (λ h. length (places 0 h.young.lens)) image.entry.words.now result }
 {
-    let end = image::layout::slot_lengths(fields::header_of(image).n as usize);
-    slots::held(&image.words[image::layout::LENGTHS..end]) as u64
+    let l = places::layout_of(image.words);
+    slots::held(l.young_lengths(image.words)) as u64
 }
 
 // The sum of the counts of heap `own`'s barrier: the nursery's for 0, else the elder's. An absent one has only zeros in the image.
@@ -111,11 +111,10 @@ fn old_numbers(image: Formed<'_>) -> Elder
     ensures { Reads (λ h. take 4 (drop 6 (statistics h))) image.entry.words.now (old_numbers result) }
 {
     let l = places::layout_of(image.words);
-    let from = l.slots;
-    let end = l.young;
+    let lens = l.slot_lengths(image.words);
     let collections = fields::header_of(image).old_collections;
-    let allocations = slots::held(&image.words[from..end]) as u64;
-    let cells = slots::in_use(&image.words[from..end]) as u64;
+    let allocations = slots::held(lens) as u64;
+    let cells = slots::in_use(lens) as u64;
     let references = references(image, 1);
     Elder {
         collections,
@@ -164,7 +163,7 @@ pub fn report(image: &mut [u64]) -> Result<Statistics, Question>
 
 // ---- Into a record that the caller lends
 
-// A refusal leaves the record as it was.
+// Document 01 names the form: the report goes into a record that the caller lends. A refusal leaves the record as it was.
 pub fn report_into_formed(image: &mut [u64], lent: &mut Statistics) -> Result<(), Question>
     requires { Image image.old (decode image.old) }
     ensures { Fills (reported image.old (report (decode image.old))) lent.old result lent.new image.new }
@@ -194,6 +193,7 @@ pub fn report_lent_formed(image: &mut [u64]) -> Result<Statistics, Question>
 pub fn report_lent(image: &mut [u64]) -> Result<Statistics, Question>
     ensures { report_call image.old ≡ report_outcome result image.new }
 {
-    image::check(image)?; // 1, then 2
-    report_lent_formed(image)
+    let mut s = Statistics::default();
+    report_into(image, &mut s)?;
+    Ok(s)
 }

@@ -1,13 +1,10 @@
-use native.Mathlib.Omega.{arith}
-use Rattle.fields.proofs.Parts.{sized-in, n-read}
+use borrow.Author.Rules.{rules}
+use Rattle.layout.proofs.Tail.{image-says-sized}
 use Rattle.report.proofs.Taking.{young-held}
 use Rattle.report.proofs.young_allocations.Goals as goal
 
-pub slot_lengths-end-requires : goal.slot_lengths-end-requires
-slot_lengths-end-requires c = omega (arith, n-read c.args.image.formed c.header_of.ensures.n, (sized-in c.args.image.formed).bounds.n)
-
-pub slice_bounds-held-end : goal.slice_bounds-held-end
-slice_bounds-held-end c = omega (arith, n-read c.args.image.formed c.header_of.ensures.n, (sized-in c.args.image.formed).long)
+pub layout_of-l-requires : goal.layout_of-l-requires
+layout_of-l-requires c = search (image-says-sized, rules)
 
 pub returns : goal.returns
-returns c = young-held c.header_of.ensures.n c.slot_lengths-end.ensures c.held.ensures
+returns c = young-held c.layout_of-l.ensures c.young_lengths.ensures c.held.ensures
