@@ -15,6 +15,7 @@ use layout::places;
 use nursery::Collected;
 use question::Question;
 use words::Source;
+use words::cells::Cells;
 
 // Where the lists stand behind the saved image: the young members, the new bases, the elder's members.
 #[derive(Clone, Copy)]
@@ -115,5 +116,5 @@ pub fn place_part(image: &mut [u64], scratch: &[u64], base: u64) -> Result<u64, 
     let from = l.young;
     let end = l.old;
     let part = nursery::promoted(&scratch[lens..behind], &scratch[from..end], base as usize);
-    elder::place(image, Source::Given(part))
+    elder::place(image, Source::Given(Cells { words: part }))
 }

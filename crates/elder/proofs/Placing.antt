@@ -4,7 +4,7 @@ use mathlib.Core.Bool.{Bool, true, false}
 use mathlib.Core.List.{List}
 use Prim.Native.Nat.{ℕ, zero, suc}
 use lib.ListN.{set, replicate}
-use Rattle.std.proofs.Common.{Result, Ok, Err, Bor}
+use Rattle.std.proofs.Common.{Result, Ok, Err}
 use Rattle.model.specs.Res.{Res, ok, refuse, ◌>>=◌, each}
 use Rattle.model.specs.Records.{Cell, blank, whole_cells}
 use Rattle.model.specs.Barrier.{Barrier, count_in}
@@ -27,6 +27,7 @@ use Rattle.barrier.specs.declared.WriteBarrier.{WriteBarrier}
 use Rattle.trace.proofs.Places.{in-length}
 use Rattle.layout.specs.Elder.{with_slots, Turned, fit_answer, fit_for}
 use Rattle.words.specs.Source.{cells_from, count_of}
+use Rattle.words.specs.declared.cells.Cells.{Cells}
 use Rattle.words.specs.declared.Source.{Source}
 use Rattle.words.specs.declared.Source.TheVariants.{Blank, Given}
 use Rattle.fields.specs.Fields.{Reads, Turns, on_old, with_old_bar}
@@ -59,7 +60,7 @@ pub count-blank : {src : Source} (n : ℕ) {w : List ℕ} → src ≡ Blank n �
 unfolding count_step with_old with_old_bar
 count-blank n e = rw e (record { does = λ h i. rw (blanks-counted n h.old.bar) (refl, i) })
 
-pub count-given : {src : Source} (s : Bor (List ℕ)) {x : Res (Unit {0})} {w v : List ℕ} → src ≡ Given s → Does (count_step (cells_in s.now)) w x v → Does (count_step (cells_from src)) w x v
+pub count-given : {src : Source} (s : Cells) {x : Res (Unit {0})} {w v : List ℕ} → src ≡ Given s → Does (count_step (cells_in s.words.now)) w x v → Does (count_step (cells_from src)) w x v
 count-given s e d = rw e d
 
 -- where none crosses, nothing changes
@@ -126,7 +127,7 @@ module _ (k : ℕ) (cs : List Cell) (w : List ℕ) (r : Result ℕ Question) (e 
 source-is : (src : Source) (h : Heap) → put_step (count_of src) (cells_from src) h ≡ source_step src h
 unfolding place_step blank_step place place_new
 source-is (Blank n) h = refl
-source-is (Given s) h = rw (in-length s.now) refl
+source-is (Given s) h = rw (in-length s.words.now) refl
 
 module _ (src : Source) (w : List ℕ) (n : ℕ) (k : n ≡ count_of src) (r : Result ℕ Question) (e : fit_answer r ≡ fit_for n (decode w)) where
   abbrev cells : List Cell

@@ -53,4 +53,4 @@ blank_step a h = place_new h.size a h.old >>= λ r. ok (r.0, with_old r.1 h)
 -- as they come to `place`
 abbrev pub source_step : Source → Heap → Res (ℕ × Heap)
 source_step (Blank n) = blank_step n
-source_step (Given w) = place_step (cells_in w.now)
+source_step (Given c) = place_step (cells_in c.words.now)

@@ -14,7 +14,7 @@ ghost use Rattle.theorems.specs.Does.{Does};
 ghost use Rattle.question.specs.Question.{answer, number_answer, done_answer};
 ghost use Rattle.barrier.specs.Counts.{barrier_of};
 ghost use Rattle.trace.specs.Words.{members, listed};
-ghost use Rattle.words.specs.Source.{cells_from, whole_source};
+ghost use Rattle.words.specs.Source.{cells_from};
 ghost use Rattle.fields.specs.Fields.{Reads, Turns, on_old};
 ghost use Rattle.elder.specs.Steps.{Listed, swept, Collects, collect_with, collect_step, count_step, source_step};
 
@@ -131,20 +131,18 @@ fn count_given(image: &mut [u64], src: &[u64]) -> Result<(), Question>
 
 // The same, but Uninitialized cells never count.
 fn count_in(image: &mut [u64], src: Source<'_>) -> Result<(), Question>
-    requires image { Image image.old (decode image.old) }
-    requires src_whole { whole_source src ≡ true }
+    requires { Image image.old (decode image.old) }
     ensures { Does (count_step (cells_from src.entry)) image.old (done_answer result) image.new }
 {
     match src {
         Source::Blank(_) => Ok(()),
-        Source::Given(words) => count_given(image, words),
+        Source::Given(cells) => count_given(image, cells.words),
     }
 }
 
 // These cells at the new base, which is answered. Room is asked for first: no sum is made with their number before.
 pub fn place(image: &mut [u64], src: Source<'_>) -> Result<u64, Question>
-    requires image { Image image.old (decode image.old) }
-    requires src_whole { whole_source src ≡ true }
+    requires { Image image.old (decode image.old) }
     ensures { Does (source_step src.entry) image.old (number_answer result) image.new }
 {
     let b = layout::room_for(Formed { words: image }, src.count())?;

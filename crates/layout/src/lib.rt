@@ -13,7 +13,7 @@ ghost use Rattle.model.specs.Elder.{keep};
 ghost use Rattle.model.specs.Collector.{holds, swap_cell, read};
 ghost use Rattle.theorems.specs.Fit.{Image};
 ghost use Rattle.trace.specs.Words.{pointer, listed};
-ghost use Rattle.words.specs.Source.{cells_from, count_of, whole_source};
+ghost use Rattle.words.specs.Source.{cells_from, count_of};
 ghost use Rattle.slots.specs.Slots.{ReadBy, written, move_of};
 ghost use Rattle.layout.specs.Elder.{Turned, fit_answer, fit_for, fit_words};
 
@@ -79,7 +79,6 @@ pub fn room_for(image: Formed<'_>, len: usize) -> Result<usize, Question>
 // These cells become the allocation at b, the base that `room_for` answered.
 pub fn put(image: &mut [u64], b: usize, src: Source<'_>)
     requires image { Image image.old (decode image.old) }
-    requires src_whole { whole_source src ≡ true }
     requires b_value { ok b ≡ fit_for (count_of src) (decode image.old) }
     ensures { Turned (λ ss. set ss b (cells_from src.entry)) image.old image.new }
 {

@@ -13,7 +13,7 @@ use Rattle.model.specs.Heap.{in_use}
 use Rattle.theorems.proofs.Cells.{words-length, valid-blanks, whole_back, whole-valid}
 use Rattle.theorems.proofs.Contents.{valid-all, all_valid_lem, set-from}
 use Rattle.words.specs.Words.{padded}
-use Rattle.words.specs.Source.{filling, cells_from, count_of, whole_source}
+use Rattle.words.specs.Source.{filling, cells_from, count_of}
 use Rattle.words.specs.declared.Source.{Source}
 use Rattle.words.specs.declared.Source.TheVariants.{Blank, Given}
 use Rattle.trace.proofs.Places.{in-length}
@@ -117,26 +117,26 @@ words-blank (suc n) = let e : 3 * suc n ≡ suc (suc (suc (3 * n))) = omega arit
 
 -- what is placed
 
-source-words : (src : Source) → whole_source src ≡ true → filling src ≡ cell_words (cells_from src)
-source-words (Blank n) u = words-blank n
-source-words (Given s) u = sym (whole_back s.now u)
+source-words : (src : Source) → filling src ≡ cell_words (cells_from src)
+source-words (Blank n) = words-blank n
+source-words (Given c) = sym (whole_back c.words.now c.whole)
 
 pub source-count : (src : Source) → length (cells_from src) ≡ count_of src
 source-count (Blank n) = length-replicate n blank
-source-count (Given s) = in-length s.now
+source-count (Given c) = in-length c.words.now
 
-source-valid : (src : Source) → whole_source src ≡ true → all_valid (cells_from src) ≡ true
-source-valid (Blank n) u = valid-blanks n
-source-valid (Given s) u = whole-valid s.now u
+source-valid : (src : Source) → all_valid (cells_from src) ≡ true
+source-valid (Blank n) = valid-blanks n
+source-valid (Given c) = whole-valid c.words.now c.whole
 
 module _ {s at : ℕ} {w : List ℕ} (v : Elder s at w (slots_at s at w)) (b i j k : ℕ) (ei : i ≡ sum (take b (take s w)) * 3) (ej : j ≡ get_or (take s w) b 0 * 3) (ek : k ≡ sum (take s w) * 3) (h : b < s)
-    (src : Source) (u : whole_source src ≡ true) (r : (in_use (set (slots_at s at w) b []) + count_of src) * 3 ≤ length w - at) where
+    (src : Source) (r : (in_use (set (slots_at s at w) b []) + count_of src) * 3 ≤ length w - at) where
   pub source-room : k - j + length (filling src) ≤ length (lent at w)
-  source-room = place-room v b i j k ei ej ek h (count_of src) r (length (filling src)) (omega (arith, ap length (source-words src u), words-length (cells_from src), source-count src))
+  source-room = place-room v b i j k ei ej ek h (count_of src) r (length (filling src)) (omega (arith, ap length (source-words src), words-length (cells_from src), source-count src))
 
   pub source-placed : {n : ℕ} → n ≡ count_of src → {ys : List ℕ} → ys ≡ padded (take i (lent at w) ++ (filling src ++ take (k - (i + j)) (drop (i + j) (lent at w)))) (length (lent at w))
       → Changed s at w (set (returned at w ys) b n) (set (slots_at s at w) b (cells_from src))
   source-placed q e =
-      rw q (place-done v b i j k ei ej ek h (count_of src) r (cells_from src) (source-valid src u) (source-count src) (rw (source-words src u) at e))
+      rw q (place-done v b i j k ei ej ek h (count_of src) r (cells_from src) (source-valid src) (source-count src) (rw (source-words src) at e))
 
 pub ruleset placed = (place_in, place-used, source-room, place-zeros, source-placed)

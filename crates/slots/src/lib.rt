@@ -13,7 +13,7 @@ ghost use Rattle.model.specs.Elder.{keeps, keep};
 ghost use Rattle.model.specs.Collector.{holds, swap_cell};
 ghost use Rattle.model.specs.Calls.{cells_in};
 ghost use Rattle.trace.specs.Words.{listed};
-ghost use Rattle.words.specs.Source.{cells_from, count_of, whole_source};
+ghost use Rattle.words.specs.Source.{cells_from, count_of};
 ghost use Rattle.slots.specs.Slots.{Packed, slots_of, slots_at, Elder, Changed, read_old, ReadBy, written, stepped, stepped_to, move_of};
 
 use trace::Member;
@@ -161,7 +161,6 @@ fn hole_of(lens: &[u64], b: usize) -> Hole
 pub fn place(w: &mut [u64], s: usize, at: usize, b: usize, src: Source<'_>)
     requires elder { Elder s at w.old (slots_at s at w.old) }
     requires b_lt_s { b < s }
-    requires src_whole { whole_source src ≡ true }
     requires src_in_bounds { (in_use (set (slots_at s at w.old) b []) + count_of src) * 3 ≤ length w.old - at }
     ensures { Changed s at w.old w.new (set (slots_at s at w.old) b (cells_from src.entry)) }
 {

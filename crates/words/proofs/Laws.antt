@@ -12,7 +12,7 @@ use Rattle.words.specs.Words.{padded}
 use Rattle.words.specs.Source.{filling}
 use Rattle.words.specs.declared.Source.{Source}
 use Rattle.words.specs.declared.Source.TheVariants.{Blank, Given}
-use Rattle.std.proofs.Common.{Bor}
+use Rattle.words.specs.declared.cells.Cells.{Cells}
 
 -- past what was pasted, and before it, nothing changes
 module _ (d : List ℕ) (at : ℕ) (s : List ℕ) (n : ℕ) (h : at ≤ length d) where
@@ -109,7 +109,7 @@ module _ (at old used : ℕ) (w : List ℕ) (src : Source) (h : (at + old ≤ us
   pub spliced-blank : (n : ℕ) → src ≡ Blank n → u ≡ paste v at (replicate new 0) new → u ≡ padded (take at w ++ (filling src ++ rest_of (at + old) used w)) (length w)
   spliced-blank n f = replaced-by (replicate new 0) (ap filling f ∙ ap (λ (k : ℕ). replicate k 0) (sym (e ∙ ap (λ (r : Source). length (filling r)) f ∙ length-replicate {A = ℕ} (3 * n) 0)))
 
-  pub spliced-given : (s : Bor (List ℕ)) → src ≡ Given s → u ≡ paste v at s.now (length s.now) → u ≡ padded (take at w ++ (filling src ++ rest_of (at + old) used w)) (length w)
-  spliced-given s f q = replaced-by s.now (ap filling f) (q ∙ ap (paste v at s.now) (sym (e ∙ ap (λ (r : Source). length (filling r)) f)))
+  pub spliced-given : (s : Cells) → src ≡ Given s → u ≡ paste v at s.words.now (length s.words.now) → u ≡ padded (take at w ++ (filling src ++ rest_of (at + old) used w)) (length w)
+  spliced-given s f q = replaced-by s.words.now (ap filling f) (q ∙ ap (paste v at s.words.now) (sym (e ∙ ap (λ (r : Source). length (filling r)) f)))
 
 pub ruleset laws = (opened, spliced-blank, spliced-given)

@@ -2,11 +2,15 @@
 // slice, so that it also says which words stay.
 #![tactic(auto)]
 
+pub mod cells;
+
 ghost use Rattle.std.specs.Prelude.{◌≡◌, ◌++◌, ◌+◌, ◌-◌, ◌^◌, ◌≤◌, ◌<◌, length, take, drop, replicate};
 ghost use Rattle.std.proofs.Math.Seq.{paste};
 ghost use Rattle.model.specs.Lists.{sum};
 ghost use Rattle.words.specs.Words.{padded};
 ghost use Rattle.words.specs.Source.{filling, count_of};
+
+use cells::Cells;
 
 // Moves the n words from src on to dst; the two places may overlap.
 pub fn move_words(w: &mut [u64], dst: usize, src: usize, n: usize)
@@ -55,11 +59,11 @@ fn open_place(w: &mut [u64], at: usize, old: usize, used: usize, new: usize)
     zero_words(w, end, used.saturating_sub(end));
 }
 
-// Cells that come to a place: so many Uninitialized ones, whose words are 0, or those of these words.
+// Cells that come to a place: so many Uninitialized ones, whose words are 0, or these.
 #[derive(Clone, Copy)]
 pub enum Source<'a> {
     Blank(usize),
-    Given(&'a [u64]),
+    Given(Cells<'a>),
 }
 
 impl Source<'_> {
@@ -69,7 +73,7 @@ impl Source<'_> {
     {
         match self {
             Source::Blank(n) => n,
-            Source::Given(words) => words.len() / 3,
+            Source::Given(cells) => cells.words.len() / 3,
         }
     }
 
@@ -80,7 +84,7 @@ impl Source<'_> {
     {
         match self {
             Source::Blank(n) => 3 * n,
-            Source::Given(words) => words.len(),
+            Source::Given(cells) => cells.words.len(),
         }
     }
 }
@@ -95,7 +99,7 @@ pub fn splice(w: &mut [u64], at: usize, old: usize, used: usize, src: Source<'_>
     open_place(w, at, old, used, new);
     match src {
         Source::Blank(_) => zero_words(w, at, new),
-        Source::Given(words) => copy_words(w, at, words),
+        Source::Given(cells) => copy_words(w, at, cells.words),
     }
 }
 

@@ -12,7 +12,7 @@ returns-in_err-count_in c =
     (place-refused c.args.src _ _ c.count.ensures _ c.room_for.ensures c.in_ok-b.was _ c.count_in.ensures _ c.in_err-count_in.was)
 
 pub put-requires : goal.put-requires
-put-requires c = let all = (place-asks c.args.src _ _ c.count.ensures _ c.room_for.ensures c.in_ok-b.was _ c.count_in.ensures _ c.in_ok-count_in.was c.requires.image) in record { image = all.0; src_whole = c.requires.src_whole; b_value = all.1 }
+put-requires c = let all = (place-asks c.args.src _ _ c.count.ensures _ c.room_for.ensures c.in_ok-b.was _ c.count_in.ensures _ c.in_ok-count_in.was c.requires) in record { image = all.0; b_value = all.1 }
 
 pub returns : goal.returns
 returns c = place-done c.args.src _ _ c.count.ensures _ c.room_for.ensures c.in_ok-b.was _ c.count_in.ensures _ c.in_ok-count_in.was c.put.ensures

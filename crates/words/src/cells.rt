@@ -1,0 +1,10 @@
+// Cells in words of a slice.
+ghost use Rattle.std.specs.Prelude.{◌≡◌, true};
+ghost use Rattle.model.specs.Records.{whole_cells};
+
+// Whole, valid cells.
+#[derive(Clone, Copy)]
+pub struct Cells<'a> {
+    pub words: &'a [u64],
+    ghost whole: { whole_cells words.now ≡ true },
+}
