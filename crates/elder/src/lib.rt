@@ -23,7 +23,7 @@ use image::counts::MOST;
 use image::formed::Formed;
 use layout::places;
 use question::Question;
-use trace::Region;
+use trace::Generation;
 use words::Source;
 
 // Does it hold T allocations or more?
@@ -43,7 +43,7 @@ fn members(image: Formed<'_>, roots: &[u64], masks: &[u64], list: &mut [u64]) ->
     ensures { Listed (cells_in roots.now) masks.now image.entry.words.now result list.new }
 {
     let l = places::layout_of(image.words);
-    let elder = Region {
+    let elder = Generation {
         own: 1,
         lens: l.slot_lengths(image.words),
         cells: l.elder_cells(image.words),

@@ -15,7 +15,7 @@ use image::counts::MOST;
 use image::formed::Formed;
 use layout::places;
 use question::Question;
-use trace::Region;
+use trace::Generation;
 
 // How many members a collection visited, and how many of them survive.
 #[derive(Clone, Copy)]
@@ -38,7 +38,7 @@ fn members(image: Formed<'_>, roots: &[u64], masks: &[u64], list: &mut [u64]) ->
     ensures { Listed (cells_in roots.now) masks.now image.entry.words.now result list.new }
 {
     let l = places::layout_of(image.words);
-    let nursery = Region {
+    let nursery = Generation {
         own: 0,
         lens: l.young_lengths(image.words),
         cells: l.young_cells(image.words),

@@ -122,10 +122,10 @@ fn enter_roots(roots: &[u64], list: &mut [u64]) -> usize
     n
 }
 
-// The generation that is traced: its heap's number, 0 the nursery and 1 the elder, its lengths and its cells. The number is any u64 that
-// is below 2, as in a member: a narrower type would ask more of callers.
+// The generation that is traced: its heap's number, 0 the nursery and 1 the elder, its lengths and its cells. The number is a word, as
+// members and cells have it: an enum would be turned into one for each that is entered.
 #[derive(Clone, Copy)]
-pub struct Region<'a> {
+pub struct Generation<'a> {
     pub own: u64,
     pub lens: &'a [u64],
     pub cells: &'a [u64],
@@ -133,7 +133,7 @@ pub struct Region<'a> {
     ghost within: { Within own lens.now cells.now } by { Within-prop own lens.now cells.now },
 }
 
-impl Region<'_> {
+impl Generation<'_> {
     // Enters (own, b, 0), if there is an allocation at b and a mask matches.
     fn enter_base(self, b: usize, masks: &[u64], list: &mut [u64], count: usize) -> usize
         requires b_in_bounds { b < length self.lens.now }

@@ -13,7 +13,7 @@ use Rattle.trace.specs.Places.{own_at}
 use Rattle.trace.specs.Leads.{begins_at, leads_to}
 use Rattle.trace.specs.Traces.{Within}
 use Rattle.trace.proofs.Heaps.{own-inside}
-use Rattle.trace.proofs.Region.visit.Goals as goal
+use Rattle.trace.proofs.Generation.visit.Goals as goal
 
 module _ (own : ℕ) (ls cells w : List ℕ) (p : ℕ) where
   -- the entry's base

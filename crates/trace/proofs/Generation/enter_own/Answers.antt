@@ -1,6 +1,6 @@
 use Rattle.trace.proofs.Places.{own-one, own-none}
 use Rattle.trace.proofs.Entering.{one-room, one-entered, none-entered}
-use Rattle.trace.proofs.Region.enter_own.Goals as goal
+use Rattle.trace.proofs.Generation.enter_own.Goals as goal
 
 pub returns-then-self-at : goal.returns-then-self-at
 returns-then-self-at c = search (none-entered, own-none)

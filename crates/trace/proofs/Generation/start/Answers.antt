@@ -14,7 +14,7 @@ use Rattle.theorems.proofs.Members.{pointers-length}
 use Rattle.trace.specs.Words.{members, Room}
 use Rattle.trace.proofs.Places.{in-length}
 use Rattle.trace.proofs.Closure.{enter-few, enter-append}
-use Rattle.trace.proofs.Region.start.Goals as goal
+use Rattle.trace.proofs.Generation.start.Goals as goal
 
 roots_few : (roots : List ℕ) → length (enter same_ptr [] (pointers (cells_in roots))) ≤ length roots / 3
 roots_few roots = omega (arith, enter-few same_ptr [] (pointers (cells_in roots)), pointers-length (cells_in roots), in-length roots)

@@ -17,7 +17,7 @@ use Rattle.trace.specs.Places.{base_at}
 use Rattle.trace.specs.Words.{members, Room}
 use Rattle.trace.proofs.Places.{bases-flat}
 use Rattle.trace.proofs.Entering.{Entering, enter-room, enter-turn, enter-done}
-use Rattle.trace.proofs.Region.enter_matched.Goals as goal
+use Rattle.trace.proofs.Generation.enter_matched.Goals as goal
 
 begin : (own : ℕ) (ms lens w : List ℕ) (n : ℕ) → Room w (enter same_ptr (members n w) (matched own ms (places 0 lens)))
     → Entering (base_at own ms lens) (length lens) (enter same_ptr (members n w) (matched own ms (places 0 lens))) (length w) 0 w n

@@ -1,6 +1,6 @@
 use Rattle.trace.proofs.Places.{base-free, base-one, base-none}
 use Rattle.trace.proofs.Entering.{one-room, one-entered, none-entered}
-use Rattle.trace.proofs.Region.enter_base.Goals as goal
+use Rattle.trace.proofs.Generation.enter_base.Goals as goal
 
 pub returns-then-self-b-eq0 : goal.returns-then-self-b-eq0
 returns-then-self-b-eq0 c = search (none-entered, base-free)

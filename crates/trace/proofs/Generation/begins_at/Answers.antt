@@ -5,7 +5,7 @@ use lib.ListN.{take}
 use borrow.Author.Rules.{rules}
 use Rattle.model.specs.Lists.{sum}
 use Rattle.trace.specs.Leads.{begins_at}
-use Rattle.trace.proofs.Region.begins_at.Goals as goal
+use Rattle.trace.proofs.Generation.begins_at.Goals as goal
 
 young-begins : (own : ℕ) (ls : List ℕ) (b : ℕ) → own ≡ 0 → b ≡ begins_at own ls b
 unfolding begins_at

@@ -1,6 +1,6 @@
 use borrow.Author.Rules.{rules}
 use Rattle.trace.proofs.Heaps.{own-inside, own-room, own-done}
-use Rattle.trace.proofs.Region.list_members.Goals as goal
+use Rattle.trace.proofs.Generation.list_members.Goals as goal
 
 pub walk-requires : goal.walk-requires
 walk-requires c = search own-room

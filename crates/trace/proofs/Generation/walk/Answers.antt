@@ -11,8 +11,8 @@ use Rattle.model.specs.Records.{Ptr, same_ptr}
 use Rattle.trace.specs.Words.{ptr_at, Room, members}
 use Rattle.trace.proofs.Entries.{length-members, member-at}
 use Rattle.trace.proofs.Closure.{walk-next, walk_end, walk-grows}
-use Rattle.trace.proofs.Region.walk.Invariants.{Walking}
-use Rattle.trace.proofs.Region.walk.Goals as goal
+use Rattle.trace.proofs.Generation.walk.Invariants.{Walking}
+use Rattle.trace.proofs.Generation.walk.Goals as goal
 
 module _ (step : Ptr → List Ptr) where
   few : (k p : ℕ) (w : List ℕ) (n : ℕ) (goal : List Ptr) (size : ℕ) → walk same_ptr step k p (members n w) ≡ goal → 3 * length goal ≤ size → 3 * n ≤ size

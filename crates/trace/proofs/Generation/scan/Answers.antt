@@ -9,7 +9,7 @@ use Rattle.model.specs.Records.{Ptr, same_ptr}
 use Rattle.model.specs.Lists.{flat}
 use Rattle.trace.specs.Words.{tab, members, Room}
 use Rattle.trace.proofs.Entering.{Entering, enter-room, enter-turn, enter-done}
-use Rattle.trace.proofs.Region.scan.Goals as goal
+use Rattle.trace.proofs.Generation.scan.Goals as goal
 
 begin : (f : ℕ → List Ptr) (from len : ℕ) (w : List ℕ) (n : ℕ) → Room w (enter same_ptr (members n w) (flat (tab f from len)))
     → Entering f (from + len) (enter same_ptr (members n w) (flat (tab f from len))) (length w) from w n

@@ -6,7 +6,7 @@ use Rattle.model.specs.Reach.{walk}
 use Rattle.model.specs.Records.{Ptr, same_ptr}
 use Rattle.trace.specs.Words.{members}
 use Rattle.trace.specs.Leads.{leads_to}
-use Rattle.trace.proofs.Region.walk.Given as goal
+use Rattle.trace.proofs.Generation.walk.Given as goal
 
 -- The walk has come to entry p: what is left leads to the goal. Its fuel is the words' number, which is above the goal's length.
 pub record Walking (step : Ptr → List Ptr) (goal : List Ptr) (size p : ℕ) (w : List ℕ) (n : ℕ) : Type 0 where
