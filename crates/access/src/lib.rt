@@ -78,7 +78,8 @@ pub fn read(image: &[u64], p: Pointer) -> Result<Value, Question>
     read_formed(Formed { words: image }, p)
 }
 
-// The value of a cell that 3 was asked of.
+// The value of a cell that 3 was asked of. The cell comes down as a slice to whoever stores it, with `value_good` in their contracts: its words
+// are stored as they came, and a `Value` or `Words` made of them before would have to be turned back into words.
 fn new_value(cell: &[u64]) -> Value
     requires { value_good cell.now ≡ true }
     ensures { value_cell result ≡ cell_in cell.now }
@@ -88,7 +89,7 @@ fn new_value(cell: &[u64]) -> Value
 
 // ---- In the nursery
 
-// What is counted out for the i-th cell: its value, but above the cursor nothing counts.
+// What is counted out for the i-th cell: its value, but from the cursor on nothing counts.
 fn counted_value(image: Formed<'_>, i: usize) -> Value
     requires { i < (decode image.words.now).size.n }
     ensures { value_cell result ≡ gone_if (ltb i (decode image.entry.words.now).young.cursor) (get_or (decode image.entry.words.now).young.cells i blank) }
