@@ -45,9 +45,6 @@ loads-value : {m : Res Cell} {c : Cell} {v : Value} → ValueOf c v → m ≡ ok
 unfolding loaded_cell
 loads-value s e = record { cell = ap ok s.cell ∙ sym e; whole = s.whole; ranged = s.ranged }
 
-pub loads-as : {m n : Res Cell} {r : Result Value Question} → m ≡ n → Loads m r → Loads n r
-loads-as e l = record { cell = l.cell ∙ e; whole = l.whole; ranged = l.ranged }
-
 -- a call's outcome
 
 outcome-is : (w : List ℕ) (p : Ptr) (r : Result Value Question) → (opened w >>= λ h. read_on h p) ≡ (loaded_cell r >>= λ c. ok (cell_words (c ∷ []))) → call (reads p) w ≡ loaded_outcome r w

@@ -7,6 +7,3 @@ at-requires c = omega (arith, value-length _ c.requires)
 
 pub value-requires : goal.value-requires
 value-requires c = rw c.at.ensures (value-valid _ c.requires)
-
-pub returns : goal.returns
-returns c = rw c.at.ensures at c.value.ensures.cell

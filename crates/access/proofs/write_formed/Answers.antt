@@ -17,18 +17,6 @@ pub returns-then-not-value_ok : goal.returns-then-not-value_ok
 unfolding left write_on made_outcome
 returns-then-not-value_ok c = rw (sym c.value_ok.ensures ∙ c.if-not-value_ok.true)
 
-pub write_young-requires : goal.write_young-requires
-write_young-requires c = record {
-  image = c.requires;
-  cell_value = good (goal.at.write_young-requires c).Else-not-value_ok;
-}
-
-pub write_old-requires : goal.write_old-requires
-write_old-requires c = record {
-  image = c.requires;
-  cell_value = good (goal.at.write_old-requires c).Else-not-value_ok;
-}
-
 pub returns-in-0 : goal.returns-in-0
 returns-in-0 c =
     let p = c.args.p in
