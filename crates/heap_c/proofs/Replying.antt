@@ -76,9 +76,6 @@ answers-err f {before = before} e m = rw e (record { number = m; written = refl 
 pub reports-as : {o p : Outcome} {before : List ℕ} {r : ℕ} {out v : List ℕ} → o ≡ p → Reports p before r out v → Reports o before r out v
 reports-as {before = before} {r = r} {out = out} {v = v} e = subst (λ (x : Outcome). Reports x before r out v) (sym e)
 
-pub leaves-as : {o p : Outcome} {r : ℕ} {v : List ℕ} → o ≡ p → Leaves p r v → Leaves o r v
-leaves-as {r = r} {v = v} e = subst (λ (x : Outcome). Leaves x r v) (sym e)
-
 pub answers-as : {a b : Res (List ℕ)} {before : List ℕ} {r : ℕ} {out : List ℕ} → a ≡ b → Answers a before r out → Answers b before r out
 answers-as {before = before} {r = r} {out = out} e = subst (λ (x : Res (List ℕ)). Answers x before r out) e
 
