@@ -10,12 +10,16 @@ ghost use Rattle.figure.specs.Written.{Wrote};
 pub mod text;
 
 use question::Question;
+use std::cmp::Ordering;
 
 #[derive(Clone, Copy)]
 pub struct Figure {
     pub negative: bool,
     pub thousandths: u64,
 }
+
+// The most thousandths: 999999.999.
+const MOST: u64 = 999999999;
 
 // a / c rounded to a whole number. The rule for a tie stands here alone.
 fn round(a: u64, c: u64) -> u64
@@ -25,13 +29,11 @@ fn round(a: u64, c: u64) -> u64
     let whole = a / c;
     let rest = a % c;
     let missing = c - rest;
-    if rest < missing {
-        return whole;
+    match rest.cmp(&missing) {
+        Ordering::Less => whole,
+        Ordering::Equal => whole + whole % 2,
+        Ordering::Greater => whole + 1,
     }
-    if missing < rest {
-        return whole + 1;
-    }
-    whole + whole % 2
 }
 
 // The thousandfold of q / 2^h, rounded. From 64 on 2^h is no u64, and the thousandfold is below a half.
@@ -49,7 +51,7 @@ fn thousandths(q: u64, h: u64) -> u64
 fn within_limit(negative: bool, k: u64) -> Result<Figure, Question>
     ensures { figured_answer result ≡ limited negative k }
 {
-    if 999999999 < k {
+    if MOST < k {
         return Err(Question::Figure);
     }
     Ok(Figure {
@@ -58,23 +60,28 @@ fn within_limit(negative: bool, k: u64) -> Result<Figure, Question>
     })
 }
 
-// Of a Float's bits: a sign, an exponent field of 11 bits and 52 digits. From the field 1043 on the Float is 2^20 or more in
-// size, infinite or a NaN.
+// The exponent field from which on a Float is 2^20 or more in size, infinite or a NaN.
+const TOO_LARGE: u64 = 1043;
+
+// A Float is its digits over 2^(SCALE - field); those of the field 0 lack the leading digit, and have the field 1's scale.
+const SCALE: u64 = 1075;
+
+// Of a Float's bits: a sign, an exponent field of 11 bits and 52 digits.
 pub fn figure_of_bits(bits: u64) -> Result<Figure, Question>
     ensures { figured_answer result ≡ figure bits }
 {
     let negative = 0x8000_0000_0000_0000 <= bits;
     let field = bits % 0x8000_0000_0000_0000 / 0x10_0000_0000_0000;
     let digits = bits % 0x10_0000_0000_0000;
-    if 1043 <= field {
+    if TOO_LARGE <= field {
         return Err(Question::Figure);
     }
     if field == 0 {
-        return within_limit(negative, thousandths(digits, 1074));
+        return within_limit(negative, thousandths(digits, SCALE - 1));
     }
     within_limit(
         negative,
-        thousandths(0x10_0000_0000_0000 + digits, 1075 - field),
+        thousandths(0x10_0000_0000_0000 + digits, SCALE - field),
     )
 }
 
@@ -82,7 +89,7 @@ pub fn figure_of_bits(bits: u64) -> Result<Figure, Question>
 pub fn figure_of(x: f64) -> Result<Figure, Question>
     ensures { figured_answer result ≡ figure_of x }
 {
-    if x != x {
+    if x.is_nan() {
         return Err(Question::Figure);
     }
     figure_of_bits(f64::to_bits(x))
@@ -93,7 +100,7 @@ fn decimals(k: u64, out: &mut [u8], at: usize) -> usize
     requires { at + 4 ≤ length out.old }
     ensures { Wrote (0x2E ∷ (48 + k / 100 % 10) ∷ (48 + k / 10 % 10) ∷ (48 + k % 10) ∷ []) out.old at out.new result }
 {
-    let first = text::byte(0x2E, out, at);
+    let first = text::byte(b'.', out, at);
     let second = text::digit(k / 100, out, first);
     let third = text::digit(k / 10, out, second);
     text::digit(k, out, third)

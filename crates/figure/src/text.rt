@@ -19,7 +19,7 @@ pub fn digit(n: u64, out: &mut [u8], at: usize) -> usize
     requires { at < length out.old }
     ensures { Wrote ((48 + n % 10) ∷ []) out.old at out.new result }
 {
-    byte((48 + n % 10) as u8, out, at)
+    byte(b'0' + (n % 10) as u8, out, at)
 }
 
 // A minus, if there is to be one.

@@ -1,25 +1,21 @@
-use mathlib.Core.Path.{◌≡◌, sym, ap, subst, ◌∙◌}
-use mathlib.Core.Bool.{false, not}
+use mathlib.Core.Path.{◌≡◌, refl, sym, ap, subst, ◌∙◌}
+use mathlib.Core.Bool.{true}
 use lib.Dec.{T}
-use lib.Ieee.{Float, nan, inf, fin, binary64, is_nan, ne}
-use lib.Ieee.Compare.{differs_from_itself}
+use lib.Ieee.{Float, nan, inf, fin, binary64, is_nan}
 use lib.Ieee.Bits.{of_bits-to_bits}
 use borrow.Author.Rules.{rules}
+use Rattle.model.specs.Res.{refuse}
 use Rattle.model.specs.Figure.{figure_of, figure}
 use Rattle.figure.proofs.figure_of.Goals as goal
 
-no_nan : (x : Float) → ne x x ≡ false → T (not (is_nan x))
-unfolding is_nan ne
-no_nan nan h = subst T h tt
-no_nan (inf s) h = tt
-no_nan (fin s m e) h = tt
+nan-refused : (x : Float) → is_nan x ≡ true → refuse 15 ≡ figure_of x
+unfolding is_nan figure_of
+nan-refused nan h = refl
+nan-refused (inf s) h = refl
+nan-refused (fin s m e) h = absurd (subst T (sym h) tt)
 
-pub returns-then-x : goal.returns-then-x
-unfolding figure_of
-returns-then-x c = ap figure_of (sym (differs_from_itself c.args.x (subst T (sym c.if-x.true) tt)))
-
-pub float_to_bits-x : goal.float_to_bits-x
-float_to_bits-x c = no_nan c.args.x c.if-x.false
+pub returns-then-is_nan : goal.returns-then-is_nan
+returns-then-is_nan c = nan-refused c.args.x (sym c.if-is_nan.ensures.value)
 
 pub returns : goal.returns
 unfolding figure

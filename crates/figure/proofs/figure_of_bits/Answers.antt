@@ -15,9 +15,9 @@ sign bits = leb (2 ^ 63) bits
 abbrev field : ℕ → ℕ
 field bits = bits % 2 ^ 63 / 2 ^ 52
 
-pub returns-then-field-ge1043 : goal.returns-then-field-ge1043
+pub returns-then-field-ge-TOO_LARGE : goal.returns-then-field-ge-TOO_LARGE
 unfolding figure of_bits
-returns-then-field-ge1043 c = let b = c.args.bits in sym (fields-big (sign b) (field b) (b % 2 ^ 52) c.if-field-ge1043.true)
+returns-then-field-ge-TOO_LARGE c = let b = c.args.bits in sym (fields-big (sign b) (field b) (b % 2 ^ 52) c.if-field-ge-TOO_LARGE.true)
 
 pub returns-then-field-eq0 : goal.returns-then-field-eq0
 unfolding figure of_bits
@@ -31,4 +31,4 @@ unfolding figure of_bits
 returns c =
     let b = c.args.bits in
     c.within_limit-2.ensures ∙ ap (limited (sign b)) c.thousandths-2.ensures
-    ∙ sym (fields-some (sign b) (field b) (b % 2 ^ 52) (pos_of_ne-zero c.if-field-eq0.false) c.if-field-ge1043.false)
+    ∙ sym (fields-some (sign b) (field b) (b % 2 ^ 52) (pos_of_ne-zero c.if-field-eq0.false) c.if-field-ge-TOO_LARGE.false)
