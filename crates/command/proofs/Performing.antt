@@ -1,11 +1,10 @@
 -- Any command: its registers are below 16; a second `new` is refused; the first is made before any heap.
-use mathlib.Core.Path.{◌≡◌, sym, subst}
-use mathlib.Core.Bool.{true, false≢true}
+use mathlib.Core.Path.{◌≡◌}
+use mathlib.Core.Bool.{true}
 use mathlib.Core.List.{List, ◌∷◌}
-use Prim.Native.Nat.{ℕ, ◌≤◌, ◌<◌}
+use Prim.Native.Nat.{ℕ, ◌<◌}
 use native.Mathlib.Omega.{arith}
-use lib.ListN.{length, take}
-use lib.Seq.{length-take-le}
+use lib.ListN.{length}
 use lib.Dec.{leb}
 use borrow.Author.Tests.{leb-true}
 use Rattle.std.specs.Prelude.{Result, Err}
@@ -13,18 +12,14 @@ use Rattle.question.specs.declared.Question.{Question}
 use Rattle.question.specs.declared.Question.TheVariants.{Heap}
 use Rattle.model.specs.Lists.{all_at_most}
 use Rattle.model.specs.Heap.{Sizes}
-use Rattle.model.specs.Command.{Command, new}
+use Rattle.model.specs.Command.{new}
 use Rattle.model.specs.Run.{step}
 use Rattle.theorems.proofs.Lists.{and_parts}
-use Rattle.reader.specs.Answer.{model_command}
-use Rattle.reader.specs.declared.Command as command
-use Rattle.reader.specs.declared.Command.TheVariants as variants
 use Rattle.registers.specs.declared.Registers.{Registers}
 use Rattle.registers.specs.Cells.{Good}
 use Rattle.command.specs.declared.answers.Answer.{Answer}
-use Rattle.command.specs.declared.State.{State}
-use Rattle.command.specs.State.{Held, heapless}
-use Rattle.command.specs.Steps.{is_new, Acts, Performs}
+use Rattle.command.specs.State.{Held}
+use Rattle.command.specs.Steps.{Acts}
 use Rattle.command.proofs.Heaps.{heap-there, refuses}
 
 pub first_below : (r : ℕ) (rs : List ℕ) → all_at_most 15 (r ∷ rs) ≡ true → (r < 16) × (all_at_most 15 rs ≡ true)

@@ -25,7 +25,8 @@ use reader::{Access, Command};
 use registers::Registers;
 use value::{Pointer, Value, Words};
 
-// The heap's words in a buffer, 0 without a heap; and the registers.
+// The heap's words in a buffer, and the registers. Without a heap the words are 0: the commands get the empty image then, of which
+// the contracts speak as of any other (`Held`).
 #[derive(Clone, Copy)]
 pub struct State {
     pub words: usize,
@@ -145,10 +146,19 @@ fn report_in(image: &mut [u64]) -> Result<Answer, Question>
 
 // ---- New
 
+// The program's bounds of the sizes.
+const MOST_N: u64 = 128;
+
+const MOST_T: u64 = 8192;
+
+const MOST_S: u64 = 128;
+
+const MOST_C: u64 = 512;
+
 fn is_bounded(z: Sizes) -> bool
     ensures { result ≡ program_bounds (model_sizes z) }
 {
-    z.n <= 128 && z.t <= 8192 && z.s <= 128 && z.c <= 512
+    z.n <= MOST_N && z.t <= MOST_T && z.s <= MOST_S && z.c <= MOST_C
 }
 
 // The first heap, with its words: 14 got a yes. 1 asks of the program's limits.
@@ -221,17 +231,17 @@ impl State {
         requires command_value { all_at_most 15 (registers_of (model_command command)) ≡ true }
         ensures { Performs (model_command command) buffer.old self.old result buffer.new self.new }
     {
-        if self.words == 0 {
-            if let Command::New { n, t, s, c } = command {
-                let z = Sizes {
-                    n: n as u64,
-                    t: t as u64,
-                    s: s as u64,
-                    c: c as u64,
-                };
-                self.words = make(buffer, z)?;
-                return Ok(Answer::New);
-            }
+        if self.words == 0
+            && let Command::New { n, t, s, c } = command
+        {
+            let z = Sizes {
+                n: n as u64,
+                t: t as u64,
+                s: s as u64,
+                c: c as u64,
+            };
+            self.words = make(buffer, z)?;
+            return Ok(Answer::New);
         }
         act(
             &mut buffer[..self.words],

@@ -29,7 +29,7 @@ use Rattle.cycle.proofs.Doing.{does-map}
 -- has it to be collected first?
 
 module _ {w : List ℕ} (what : Request) (left : ℕ) (done : Bool) where
-  pub last_done : left ≡ 1 → done ≡ true → Reads (must_collect what left done) w false
+  pub last_done : left ≡ 1 → done ≡ true → Reads (must_collect what left done) w (not done)
   unfolding must_collect
   last_done e d = record { reads = λ h i. rw (e, d) }
 

@@ -95,10 +95,7 @@ pub fn must_collect(image: Formed<'_>, what: Request, left: u64, collected: bool
     ensures { Reads (must_collect what left collected) image.entry.words.now result }
 {
     if left == 1 {
-        if collected {
-            return false;
-        }
-        return elder::is_full(image);
+        return !collected && elder::is_full(image);
     }
     match what {
         Request::New(amount) => !nursery::fits(image, amount),

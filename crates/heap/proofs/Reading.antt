@@ -8,10 +8,3 @@ abbrev pub onward : ℕ → ℕ
 onward zero = 0
 onward (suc k) = 1
 
-onward-few : (came : ℕ) → onward came ≤ came
-onward-few zero = omega arith
-onward-few (suc k) = omega arith
-
-onward-some : (came : ℕ) → 0 < came → onward came ≡ 1
-onward-some zero h = omega arith
-onward-some (suc k) h = refl

@@ -158,6 +158,9 @@ impl Opcode {
 
 // ---- What stands at a place of a file
 
+// The last of the sixteen registers.
+const LAST: u8 = 15;
+
 // Is each register one of the sixteen?
 fn registers_hold(command: Command) -> bool
     ensures { result ≡ all_at_most 15 (registers_of (model_command command)) }
@@ -166,8 +169,8 @@ fn registers_hold(command: Command) -> bool
         Command::New { .. } | Command::Report => true,
         Command::Alloc { register, .. }
         | Command::Set { register, .. }
-        | Command::Figure { register } => register <= 15,
-        Command::Load(a) | Command::Store(a) => a.register <= 15 && a.pointer <= 15,
+        | Command::Figure { register } => register <= LAST,
+        Command::Load(a) | Command::Store(a) => a.register <= LAST && a.pointer <= LAST,
     }
 }
 
@@ -200,7 +203,7 @@ pub fn next_at(file: &[u8], at: usize) -> Option<Result<(Command, usize), Questi
     Some(command_at(file, at))
 }
 
-// A file, and the place of its next command.
+// A file, and the place of its next command: the form that document 01 names.
 #[derive(Drop)]
 pub struct Reader<'a> {
     pub file: &'a [u8],
