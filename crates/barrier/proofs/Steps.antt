@@ -1,12 +1,15 @@
 -- A count step against the model's.
 use mathlib.Core.Path.{◌≡◌, refl, ap, ◌∙◌}
 use mathlib.Core.Bool.{Bool, true, false}
-use Prim.Native.Nat.{ℕ, ◌+◌, ◌-◌, ◌%◌, ◌<◌, ◌≤◌}
+use Prim.Native.Nat.{ℕ, ◌+◌, ◌-◌, ◌%◌, ◌^◌, ◌<◌, ◌≤◌}
 use native.Mathlib.Omega.{arith}
 use native.Mathlib.Numerals.{add-one}
 use lib.Dec.{eqb}
 use lib.ListN.{get_or, set, replicate}
 use borrow.Author.Tests.{lt-ltb, le-ltb, eq-eqb, ne_eqb}
+use Rattle.std.proofs.Common.{Option, Some, None, Ok, Err}
+use Rattle.std.specs.Option.{SomeIff, ok_or}
+use Rattle.question.specs.declared.Question.{Question}
 use Rattle.model.specs.Res.{Res, ok, refuse}
 use Rattle.model.specs.Records.{Ptr, Cell, plain, ref, blank}
 use Rattle.model.specs.Barrier.{Barrier, cache, most, counts, count, up, down, count_in, count_out}
@@ -58,6 +61,15 @@ module _ {own : ℕ} {f : Cell → Barrier → Res Barrier} {g : ℕ → Barrier
     unfolding value_cell
     step_other h k at = rw (e, ← s.of_ref, ne_eqb _ _ h, at)
 
+-- what `checked` sums and `ok_or` came to
+pub none_of : {P : Type 0} (v : ℕ) (x : Option ℕ) (q e : Question) → SomeIff x P v → ok_or x q ≡ Err e → (P → ⊥) × (e ≡ q)
+none_of v None q e s h = (s, cc)
+none_of v (Some y) q e s h = absurd cc
+
+pub some_of : {P : Type 0} {v : ℕ} (x : Option ℕ) (q : Question) (n : ℕ) → SomeIff x P v → ok_or x q ≡ Ok n → P × (n ≡ v)
+some_of None q n s h = absurd cc
+some_of (Some y) q n (p, e) h = (p, cc)
+
 -- a present barrier with b's counts
 pub record Opened (b s : WriteBarrier) : Type 0 where
   pub is : s.present ≡ true
@@ -73,13 +85,13 @@ module _ (b s : WriteBarrier) where
   opened-present h e = record { is = ap (λ (x : WriteBarrier). x.present) e ∙ h; same = rw h (ap (λ (x : WriteBarrier). x.counts) e) }
 
 module _ (b s : WriteBarrier) (o : Opened b s) (k : ℕ) where
-  pub up-full : 4294967295 ≤ get_or s.counts k 0 → refuse 11 ≡ up k (barrier_of b)
+  pub up-full : (get_or s.counts k 0 + 1 < 2 ^ 32 → ⊥) → refuse 11 ≡ up k (barrier_of b)
   unfolding up count most
-  up-full h = rw (← o.same, le-ltb _ _ h)
+  up-full h = let full : 4294967295 ≤ get_or s.counts k 0 = omega arith in rw (← o.same, le-ltb _ _ full)
 
-  pub up_more : get_or s.counts k 0 < 4294967295 → ok (barrier_if s.present (set s.counts k (get_or s.counts k 0 + 1))) ≡ up k (barrier_of b)
+  pub up_more : get_or s.counts k 0 + 1 < 2 ^ 32 → ok (barrier_if s.present (set s.counts k (get_or s.counts k 0 + 1))) ≡ up k (barrier_of b)
   unfolding up count most
-  up_more h = rw (← o.same, lt-ltb _ _ h, o.is, add-one)
+  up_more h = let room : get_or s.counts k 0 < 4294967295 = omega arith in rw (← o.same, lt-ltb _ _ room, o.is, add-one)
 
 module _ (b : WriteBarrier) (k : ℕ) where
   pub down-absent : b.present ≡ false → ok (barrier_of b) ≡ down k (barrier_of b)
@@ -87,10 +99,10 @@ module _ (b : WriteBarrier) (k : ℕ) where
   down-absent h = rw h
 
   module _ (h : b.present ≡ true) where
-    pub down-none : get_or b.counts k 0 ≡ 0 → refuse 10 ≡ down k (barrier_of b)
+    pub down-none : (1 ≤ get_or b.counts k 0 → ⊥) → refuse 10 ≡ down k (barrier_of b)
     unfolding down
-    down-none e = rw (h, e)
+    down-none e = let none : get_or b.counts k 0 ≡ 0 = omega arith in rw (h, none)
 
-    pub down-less : (get_or b.counts k 0 ≡ 0 → ⊥) → ok (barrier_if b.present (set b.counts k (get_or b.counts k 0 - 1))) ≡ down k (barrier_of b)
+    pub down-less : 1 ≤ get_or b.counts k 0 → ok (barrier_if b.present (set b.counts k (get_or b.counts k 0 - 1))) ≡ down k (barrier_of b)
     unfolding down
-    down-less e = let some : 0 < get_or b.counts k 0 = omega arith in rw (h, lt-ltb _ _ some)
+    down-less e = rw (h, lt-ltb 0 _ e)

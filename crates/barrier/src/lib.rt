@@ -15,13 +15,14 @@ use question::Question;
 use value::Value;
 
 // The counts of an absent barrier are taken as zero, whatever the array holds. They stand first, where the barrier is aligned: each step
-// copies them.
+// copies them. `present` stands beside them: an Option of the array would be copied as a whole too, and is no plainer.
 #[derive(Clone, Copy)]
 pub struct WriteBarrier {
     pub counts: [u32; 256],
     pub present: bool,
 }
 
+// Its steps take `mut self` and hand the barrier back, the form that document 01 names.
 impl WriteBarrier {
     pub const SIZE: usize = 256;
 
@@ -58,12 +59,8 @@ impl WriteBarrier {
             self.present = true;
         }
         let at = WriteBarrier::place(p.base);
-        let n = self.counts[at];
         // The bound of each count is the greatest number of its type.
-        if u32::MAX <= n {
-            return Err(Question::Bound);
-        }
-        self.counts[at] = n + 1;
+        self.counts[at] = self.counts[at].checked_add(1).ok_or(Question::Bound)?;
         Ok(self)
     }
 
@@ -78,11 +75,7 @@ impl WriteBarrier {
             return Ok(self);
         }
         let at = WriteBarrier::place(p.base);
-        let n = self.counts[at];
-        if n == 0 {
-            return Err(Question::Count);
-        }
-        self.counts[at] = n - 1;
+        self.counts[at] = self.counts[at].checked_sub(1).ok_or(Question::Count)?;
         Ok(self)
     }
 

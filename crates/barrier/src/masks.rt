@@ -5,7 +5,7 @@ ghost use Rattle.barrier.specs.Counts.{barrier_of};
 
 use crate::WriteBarrier;
 
-// The first `count` places.
+// The first `count` places. There is no heap, so they stand in an array with their number, of which `few` is the bound.
 #[derive(Clone, Copy)]
 pub struct Masks {
     places: [u64; 256],

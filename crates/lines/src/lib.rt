@@ -46,7 +46,12 @@ fn cell_numbers(v: Value) -> [u64; 4]
     ensures { spaced result ≡ cell_text (value_cell v) }
 {
     match v {
-        Value::Pointer(p) => [value::POINTER, p.heap as u64, p.base, p.offset.cast_unsigned()],
+        Value::Pointer(p) => [
+            value::POINTER,
+            p.heap as u64,
+            p.base,
+            p.offset.cast_unsigned(),
+        ],
         _ => {
             let w = Words::from(v);
             [w.tag, 0, w.payload, 0]

@@ -92,13 +92,10 @@ pub fn swap_at(cells: &mut [u64], i: usize, moved: Move) -> bool
     ensures value { result ≡ holds (move_of moved).0 (get_or (cells_in cells.old) i blank) }
 {
     let at = 3 * i;
-    if cells[at] != value::POINTER + value::HEAP_STEP * moved.heap as u64 {
-        return false;
-    }
-    if cells[at + 1] != moved.base {
-        return false;
-    }
-    if cells[at + 2] != moved.offset {
+    if cells[at] != value::POINTER + value::HEAP_STEP * moved.heap as u64
+        || cells[at + 1] != moved.base
+        || cells[at + 2] != moved.offset
+    {
         return false;
     }
     cells[at] = value::ELDER;

@@ -10,7 +10,7 @@ ghost use Rattle.value.specs.Value.{kind_number, value_cell, words_at, Spelled, 
 use question::Question;
 
 // The kinds, by their numbers.
-#[derive(Clone, Copy, Debug, PartialEq, Eq)]
+#[derive(Clone, Copy)]
 enum Kind {
     Uninitialized = 0,
     Int = 1,
@@ -73,7 +73,7 @@ pub fn number(bits: u64) -> f64
     ensures { result ≡ of_bits binary64 bits }
 {
     if 0x7FF0_0000_0000_0000 < bits % 0x8000_0000_0000_0000 {
-        0.0 / 0.0
+        f64::NAN
     } else {
         f64::from_bits(bits)
     }

@@ -1,6 +1,7 @@
-use mathlib.Core.Path.{◌∙◌}
+use mathlib.Core.Path.{sym, ◌∙◌}
+use Rattle.question.proofs.Passing.{passed_on}
 use Rattle.barrier.specs.Counts.{barrier_of}
-use Rattle.barrier.proofs.Steps.{steps-in, step-plain, step-own, step_other, Opened, opened-absent, opened-present, up-full, up_more}
+use Rattle.barrier.proofs.Steps.{steps-in, step-plain, step-own, step_other, Opened, opened-absent, opened-present, up-full, up_more, none_of, some_of}
 use Rattle.barrier.proofs.WriteBarrier.count_in.Goals as goal
 use Rattle.barrier.proofs.WriteBarrier.count_in.Goals.{Joined-not-self, then-not-self, else-not-self}
 
@@ -23,18 +24,21 @@ returns-then-p-own c =
     let a = c.args in
     step-own (steps-in a.own) (barrier_of a.self) a.v c.in-Pointer.p c.in-Pointer.is c.if-p-own.true
 
-pub returns-then-n-ge4294967295 : goal.returns-then-n-ge4294967295
-returns-then-n-ge4294967295 c =
+pub returns-in_err-self : goal.returns-in_err-self
+returns-in_err-self c =
     let a = c.args in
     let k = c.place-at in
-    let j = c.before.before.before in
-    up-full a.self j.if-not-self.self (opened j) k.result c.if-n-ge4294967295.true
+    let j = (goal.at.returns-in_err-self c).Joined-not-self in
+    let (full, is) = none_of _ _ _ _ c.checked_add.ensures (sym c.ok_or.ensures.value ∙ c.in_err-self.was) in
+    passed_on _ c.from_residual.result _ c.from_residual.ensures.1
+    ∙ rw is (up-full a.self j.if-not-self.self (opened j) k.result full)
     ∙ step_other (steps-in a.own) (barrier_of a.self) a.v c.in-Pointer.p c.in-Pointer.is c.if-p-own.false k.result k.ensures
 
 pub returns : goal.returns
 returns c =
     let a = c.args in
     let k = c.place-at in
-    let j = c.before.before.before in
-    up_more a.self j.if-not-self.self (opened j) k.result c.if-n-ge4294967295.false
+    let j = (goal.at.returns c).Joined-not-self in
+    let (room, is) = some_of _ _ _ c.checked_add.ensures (sym c.ok_or.ensures.value ∙ c.in_ok-self.was) in
+    rw is (up_more a.self j.if-not-self.self (opened j) k.result room)
     ∙ step_other (steps-in a.own) (barrier_of a.self) a.v c.in-Pointer.p c.in-Pointer.is c.if-p-own.false k.result k.ensures
