@@ -1,10 +1,9 @@
 -- Entries as chunks of three words.
-use Rattle.std.proofs.Common.{◌≡◌, ℕ, zero, suc, ◌+◌, ◌*◌, ◌/◌, ◌≤◌, List, ◌∷◌, length, get_or, take, drop, map, refl, sym, ap, ◌∙◌, arith}
+use Rattle.std.proofs.Common.{◌≡◌, ℕ, zero, suc, ◌+◌, ◌*◌, ◌/◌, ◌≤◌, List, ◌∷◌, length, take, drop, map, refl, sym, ap, ◌∙◌, arith}
 use Rattle.std.specs.Simd.{first_chunks}
 use lib.Seq.{get_or-take, get_or-drop, take-take, length-take-le}
 use Rattle.std.proofs.lemmas.List.{drop-take}
-use Rattle.model.specs.Records.{Ptr}
-use Rattle.trace.specs.Words.{tab, pointer, ptr_at, members, listed}
+use Rattle.trace.specs.Words.{tab, ptr_at, members, listed}
 use Rattle.trace.proofs.Entries.{tab-ext}
 
 first-entry : (w : List ℕ) → ptr_at (take 3 w) 0 ≡ ptr_at w 0

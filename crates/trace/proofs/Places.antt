@@ -58,9 +58,8 @@ module _ (own : ℕ) (ms lens : List ℕ) (b : ℕ) where
     base-is = rw (lt-ltb 0 (get_or lens b 0) (pos_of_ne-zero h))
 
     -- r is what `matches` says
-    pub base-one : {r : Bool} → r ≡ matches ms b → r ≡ true → base_at own ms lens b ≡ pointer own b 0 ∷ []
-    unfolding whole
-    base-one said e = base-is ∙ (rw (← said, e))
+    pub base-one : {r : Bool} {p : Ptr} → r ≡ matches ms b → r ≡ true → p ≡ whole own b → base_at own ms lens b ≡ p ∷ []
+    base-one said e is = base-is ∙ (rw (← said, e, is))
 
     pub base-none : {r : Bool} → r ≡ matches ms b → r ≡ false → base_at own ms lens b ≡ []
     base-none said e = base-is ∙ (rw (← said, e))

@@ -5,7 +5,7 @@
 ghost use Rattle.std.specs.Prelude.{◌≡◌, [], ◌++◌, ℕ, ◌+◌, ◌*◌, ◌/◌, ◌^◌, ◌≤◌, ◌<◌, length, get_or};
 ghost use Rattle.model.specs.Lists.{flat, sum, places};
 ghost use Rattle.model.specs.Reach.{mem, add, enter, walk};
-ghost use Rattle.model.specs.Records.{same_ptr, pointers, cells_of};
+ghost use Rattle.model.specs.Records.{same_ptr, whole, pointers, cells_of};
 ghost use Rattle.model.specs.Barrier.{matches};
 ghost use Rattle.model.specs.Heap.{Nursery, Elder};
 ghost use Rattle.model.specs.Image.{cut};
@@ -37,6 +37,18 @@ impl From<[u64; 3]> for Member {
 }
 
 impl Member {
+    // The pointer to the first cell of the allocation at the base.
+    #[tactic(auto, unfolding(model::specs::Records::whole))]
+    pub fn start(heap: u64, base: u64) -> Member
+        ensures { ptr_of result ≡ whole heap base }
+    {
+        Member {
+            base,
+            offset: 0,
+            heap,
+        }
+    }
+
     // Entry i.
     #[tactic(auto, unfolding(crate::specs::Words::ptr_at))]
     pub fn at(list: &[u64], i: usize) -> Member
@@ -145,12 +157,7 @@ impl Generation<'_> {
         }
         let base = b as u64;
         if matches(masks, base) {
-            let m = Member {
-                base,
-                offset: 0,
-                heap: self.own,
-            };
-            return enter_one(list, count, m);
+            return enter_one(list, count, Member::start(self.own, base));
         }
         count
     }

@@ -1,5 +1,4 @@
-use borrow.Author.Rules.{rules}
-use Rattle.trace.proofs.Heaps.{own-inside, own-room, own-done}
+use Rattle.trace.proofs.Heaps.{own-room, own-done}
 use Rattle.trace.proofs.Generation.list_members.Goals as goal
 
 pub walk-requires : goal.walk-requires
