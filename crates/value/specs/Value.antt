@@ -1,5 +1,6 @@
 -- What a value is in the model: a cell. And what decoding three words gives.
-use Rattle.std.specs.Prelude.{◌≡◌, Bool, true, false, List, ℕ, ◌+◌, get_or, Result, IfOk}
+use Rattle.std.specs.Prelude.{◌≡◌, Bool, true, false, List, ℕ, ◌+◌, get_or, eqb, not, Option, None, Result, IfOk}
+use Rattle.std.specs.Bool.{then_some}
 use Rattle.std.specs.Float.{binary64}
 use Rattle.std.specs.Float.Ieee.{of_bits}
 use Rattle.std.specs.Int.{w64}
@@ -8,6 +9,7 @@ use Rattle.model.specs.Res.{Res, ok, ◌>>=◌, ask}
 use Rattle.question.specs.Question.{answer}
 use Rattle.question.specs.declared.Question.{Question}
 use Rattle.model.specs.Records.{Cell, plain, ref, blank, cell_of, valid_words}
+use Rattle.value.specs.declared.Pointer.{Pointer}
 use Rattle.value.specs.declared.Value.{Value}
 use Rattle.value.specs.declared.Value.TheVariants.{Uninitialized, Int, Bool as BoolV, Float as FloatV, Char, Pointer as PointerV}
 use Rattle.value.specs.declared.Words.{Words}
@@ -33,6 +35,11 @@ value_cell (BoolV b) = plain 2 (bool_word b)
 value_cell (FloatV n b) = plain 3 b
 value_cell (Char c) = plain 4 c
 value_cell (PointerV p) = ref (record { heap = p.heap; base = p.base; off = of_z w64 p.offset })
+
+-- a value's pointer, if it is one to another heap than own
+unfoldable pub crossing : ℕ → Value → Option Pointer
+crossing own (PointerV p) = then_some (not (eqb p.heap own)) p
+crossing own v = None
 
 -- the three words from i on
 abbrev pub words_at : List ℕ → ℕ → Words

@@ -1,11 +1,12 @@
 // Values, and the three words of a cell: kind + 256 × heap, payload, offset.
 #![tactic(auto)]
 
-ghost use Rattle.std.specs.Prelude.{◌≡◌, true, [], ◌∷◌, ◌+◌, ◌*◌, ◌≤◌, length};
+ghost use Rattle.std.specs.Prelude.{◌≡◌, true, [], ◌∷◌, ◌+◌, ◌*◌, ◌/◌, ◌%◌, ◌≤◌, length};
+ghost use Rattle.std.specs.Option.{SomeIff};
 ghost use Rattle.std.specs.Float.{binary64};
 ghost use Rattle.std.specs.Float.Ieee.{of_bits};
 ghost use Rattle.model.specs.Records.{plain, cell_words, scalar, valid_plain, valid_words};
-ghost use Rattle.value.specs.Value.{kind_number, value_cell, words_at, Spelled, Decodes};
+ghost use Rattle.value.specs.Value.{kind_number, value_cell, crossing, words_at, Spelled, Decodes};
 
 use question::Question;
 
@@ -41,6 +42,13 @@ const YOUNG: u64 = POINTER;
 // The first word of a pointer into the elder generation.
 pub const ELDER: u64 = POINTER + HEAP_STEP;
 
+// The heap that a cell with this first word points into, if it is a pointer.
+pub fn heap_of(tag: u64) -> Option<u64>
+    ensures { SomeIff result (tag % 256 ≡ 5) (tag / 256) }
+{
+    (tag % HEAP_STEP == POINTER).then_some(tag / HEAP_STEP)
+}
+
 // The heap is any u8: a narrower type would ask more of callers.
 #[derive(Clone, Copy)]
 pub struct Pointer {
@@ -59,6 +67,18 @@ pub enum Value {
     Float { number: f64, bits: u64 },
     Char(u32),
     Pointer(Pointer),
+}
+
+impl Value {
+    // The pointer, if it is one to another heap than `own`.
+    pub fn crossing(self, own: u8) -> Option<Pointer>
+        ensures { result ≡ crossing own self }
+    {
+        let Value::Pointer(p) = self else {
+            return None;
+        };
+        (p.heap != own).then_some(p)
+    }
 }
 
 #[derive(Clone, Copy)]
@@ -154,6 +174,15 @@ impl From<[u64; 3]> for Words {
             payload,
             offset,
         }
+    }
+}
+
+// And back.
+impl From<Words> for [u64; 3] {
+    ghost from_gives = { λ w ws. ws ≡ w.tag ∷ w.payload ∷ w.offset ∷ [] };
+
+    fn from(w: Words) -> [u64; 3] {
+        [w.tag, w.payload, w.offset]
     }
 }
 
