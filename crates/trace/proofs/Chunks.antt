@@ -39,10 +39,10 @@ chunks-cut (suc n) m w =
     let e : 3 * suc n + m ≡ 3 + (3 * n + m) = omega arith in
     rw e (λ j. take-take 3 (3 + (3 * n + m)) w (omega arith) j ∷ (ap (first_chunks 3 n) (drop-take 3 (3 * n + m) w) ∙ chunks-cut n m (drop 3 w)) j)
 
-front : (n : ℕ) (w : List ℕ) → 3 * n ≤ length w → first_chunks 3 (length (take (3 * n) w) / 3) (take (3 * n) w) ≡ first_chunks 3 n w
-front n w h =
+pub cut-chunks : (n : ℕ) (w : List ℕ) → 3 * n ≤ length w → first_chunks 3 (length (take (3 * n) w) / 3) (take (3 * n) w) ≡ first_chunks 3 n w
+cut-chunks n w h =
     let l : length (take (3 * n) w) / 3 ≡ n = omega (arith, length-take-le (3 * n) w h) in
     rw l (let e : 3 * n ≡ 3 * n + 0 = omega arith in rw e (chunks-cut n 0 w))
 
 pub listed-cut : (n : ℕ) (w : List ℕ) → 3 * n ≤ length w → listed (take (3 * n) w) ≡ members n w
-listed-cut n w h = sym (entries-are (length (take (3 * n) w) / 3) (take (3 * n) w)) ∙ ap (map (λ e. ptr_at e 0)) (front n w h) ∙ entries-are n w
+listed-cut n w h = sym (entries-are (length (take (3 * n) w) / 3) (take (3 * n) w)) ∙ ap (map (λ e. ptr_at e 0)) (cut-chunks n w h) ∙ entries-are n w

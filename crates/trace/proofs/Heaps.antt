@@ -5,7 +5,7 @@ use Prim.Native.Nat.{ℕ, zero, suc, ◌+◌, ◌*◌, ◌-◌, ◌/◌, ◌≤�
 use native.Mathlib.Omega.{arith}
 use lib.ListN.{length, get_or, take, drop, length-map}
 use lib.Seq.{drop-drop}
-use Rattle.model.specs.Lists.{flat, sum, places}
+use Rattle.model.specs.Lists.{sum, places}
 use Rattle.model.specs.Reach.{enter, walk, closure}
 use Rattle.model.specs.Records.{Ptr, cells_of, same_ptr, pointers, pointers_to}
 use Rattle.model.specs.Barrier.{absent}
@@ -16,12 +16,11 @@ use Rattle.model.specs.Elder.{old_start, old_step, old_members}
 use Rattle.model.specs.Calls.{cells_in}
 use Rattle.theorems.proofs.Regions.{lengths-sum, slots-lengths}
 use Rattle.theorems.proofs.Members.{young-few, old-few}
-use Rattle.trace.specs.Words.{tab, members, Room}
-use Rattle.trace.specs.Places.{own_at}
+use Rattle.trace.specs.Words.{members, Room}
 use Rattle.trace.specs.Leads.{begins_at, leads_to, Inside}
 use Rattle.trace.specs.Traces.{Within, most_members, Traced}
 use Rattle.trace.proofs.Closure.{walk_more}
-use Rattle.trace.proofs.Places.{in-length, own-flat}
+use Rattle.trace.proofs.Places.{in-length}
 use Rattle.words.proofs.Sums.{sum-within}
 
 -- n cells from the s-th, of m
@@ -52,14 +51,14 @@ slot_at (n ∷ ls) xs (suc b) = slot_at ls (drop n xs) b ∙ rw (drop-drop (sum 
 leads-part : (own : ℕ) (ls cells : List ℕ) (m : ℕ) (p : Ptr) → (0 < get_or ls p.base 0 → begins_at own ls p.base + get_or ls p.base 0 ≤ m)
     → pointers_to own (take (get_or ls p.base 0) (drop (begins_at own ls p.base) (cells_of m cells))) ≡ leads_to own ls cells p
 unfolding leads_to cells_of
-leads-part own ls cells m p h = go (get_or ls p.base 0) h
+leads-part own ls cells m p h = ap (pointers_to own) (go (get_or ls p.base 0) h)
   where
     s : ℕ
     s = begins_at own ls p.base
 
-    go : (n : ℕ) → (0 < n → s + n ≤ m) → pointers_to own (take n (drop s (cells_of m cells))) ≡ flat (tab (own_at own cells) s n)
-    go zero h = own-flat own cells s 0
-    go (suc n) h = rw (cells-part m (suc n) s cells (h (omega arith))) (own-flat own cells s (suc n))
+    go : (n : ℕ) → (0 < n → s + n ≤ m) → take n (drop s (cells_of m cells)) ≡ cells_of n (drop (3 * s) cells)
+    go zero h = refl
+    go (suc n) h = cells-part m (suc n) s cells (h (omega arith))
 
 -- with fuel for every pointer that comes up, and with the same steps, the walk is the closure
 closure-walked : (step step' : Ptr → List Ptr) (start : List Ptr) (k l : ℕ) → ((p : Ptr) → step p ≡ step' p) → length (closure same_ptr step k start) ≤ k → k ≤ l

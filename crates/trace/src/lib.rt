@@ -2,18 +2,17 @@
 // takes the words and a count beside them: the list grows, and the heap takes no memory but what it is lent.
 #![tactic(auto)]
 
-ghost use Rattle.std.specs.Prelude.{◌≡◌, [], ◌++◌, ℕ, ◌+◌, ◌*◌, ◌/◌, ◌^◌, ◌≤◌, ◌<◌, length, get_or};
+ghost use Rattle.std.specs.Prelude.{◌≡◌, [], ◌∷◌, ◌++◌, ℕ, ◌+◌, ◌*◌, ◌/◌, ◌^◌, ◌≤◌, ◌<◌, length, get_or, drop};
 ghost use Rattle.model.specs.Lists.{flat, sum, places};
 ghost use Rattle.model.specs.Reach.{mem, add, enter, walk};
-ghost use Rattle.model.specs.Records.{same_ptr, whole, pointers, cells_of};
+ghost use Rattle.model.specs.Records.{same_ptr, whole, cells_of, pointers, pointers_to};
 ghost use Rattle.model.specs.Barrier.{matches};
 ghost use Rattle.model.specs.Heap.{Nursery, Elder};
 ghost use Rattle.model.specs.Image.{cut};
 ghost use Rattle.model.specs.Nursery.{matched, young_members};
 ghost use Rattle.model.specs.Elder.{old_members};
 ghost use Rattle.model.specs.Calls.{cells_in};
-ghost use Rattle.trace.specs.Words.{tab, ptr_of, ptr_at, members, listed, stored, Room};
-ghost use Rattle.trace.specs.Places.{root_at, own_at, base_at};
+ghost use Rattle.trace.specs.Words.{ptr_of, ptr_at, members, listed, stored, Room};
 ghost use Rattle.trace.specs.Leads.{begins_at, leads_to, Inside};
 ghost use Rattle.trace.specs.Traces.{Within, Within-prop, most_members, Traced};
 
@@ -102,23 +101,17 @@ pub fn matches(masks: &[u64], base: u64) -> bool
     masks.iter().any(|mask| *mask & base == *mask)
 }
 
-// Enters the k-th root, if it is a pointer: its heap then stands in the first word too.
-fn enter_root(roots: &[u64], k: usize, list: &mut [u64], count: usize) -> usize
-    requires k_in_bounds { 3 * k + 2 < length roots.now }
-    requires room { Room list.old (enter same_ptr (members count list.old) (root_at roots.now k)) }
-    ensures { members result list.new ≡ enter same_ptr (members count list.old) (root_at roots.now k) }
+// Enters a root, if it is a pointer, whichever its heap.
+fn enter_root(cell: [u64; 3], list: &mut [u64], count: usize) -> usize
+    requires { Room list.old (enter same_ptr (members count list.old) (pointers (cells_of 1 cell))) }
+    ensures { members result list.new ≡ enter same_ptr (members count list.old) (pointers (cells_of 1 cell)) }
 {
-    let at = 3 * k;
-    let tag = roots[at];
+    let [tag, base, offset] = cell;
     if tag % value::HEAP_STEP != value::POINTER {
         return count;
     }
-    let m = Member {
-        base: roots[at + 1],
-        offset: roots[at + 2],
-        heap: tag / value::HEAP_STEP,
-    };
-    enter_one(list, count, m)
+    let heap = tag / value::HEAP_STEP;
+    enter_one(list, count, Member { base, offset, heap })
 }
 
 // Enters each root pointer in an empty list.
@@ -126,10 +119,10 @@ fn enter_roots(roots: &[u64], list: &mut [u64]) -> usize
     requires { Room list.old (enter same_ptr [] (pointers (cells_in roots.now))) }
     ensures { members result list.new ≡ enter same_ptr [] (pointers (cells_in roots.now)) }
 {
-    let cells = roots.len() / 3;
+    let (cells, _) = roots.as_chunks::<3>();
     let mut n = 0;
-    for k in 0..cells {
-        n = enter_root(roots, k, list, n);
+    for cell in cells {
+        n = enter_root(*cell, list, n);
     }
     n
 }
@@ -146,20 +139,15 @@ pub struct Generation<'a> {
 }
 
 impl Generation<'_> {
-    // Enters (own, b, 0), if there is an allocation at b and a mask matches.
-    fn enter_base(self, b: usize, masks: &[u64], list: &mut [u64], count: usize) -> usize
-        requires b_in_bounds { b < length self.lens.now }
-        requires room { Room list.old (enter same_ptr (members count list.old) (base_at self.own masks.now self.lens.now b)) }
-        ensures { members result list.new ≡ enter same_ptr (members count list.old) (base_at self.entry.own masks.now self.entry.lens.now b) }
+    // Enters (own, base, 0), if there is an allocation at the base, of length len, and a mask matches.
+    fn enter_base(self, base: u64, len: u64, masks: &[u64], list: &mut [u64], count: usize) -> usize
+        requires { Room list.old (enter same_ptr (members count list.old) (matched self.own masks.now (places base (len ∷ [])))) }
+        ensures { members result list.new ≡ enter same_ptr (members count list.old) (matched self.entry.own masks.now (places base (len ∷ []))) }
     {
-        if self.lens[b] == 0 {
+        if len == 0 || !matches(masks, base) {
             return count;
         }
-        let base = b as u64;
-        if matches(masks, base) {
-            return enter_one(list, count, Member::start(self.own, base));
-        }
-        count
+        enter_one(list, count, Member::start(self.own, base))
     }
 
     // Enters each allocation that a mask matches. Without masks there is none, and the lengths are not gone through.
@@ -171,8 +159,8 @@ impl Generation<'_> {
             return count;
         }
         let mut n = count;
-        for b in 0..self.lens.len() {
-            n = self.enter_base(b, masks, list, n);
+        for (b, len) in self.lens.iter().enumerate() {
+            n = self.enter_base(b as u64, *len, masks, list, n);
         }
         n
     }
@@ -186,35 +174,38 @@ impl Generation<'_> {
         self.enter_matched(masks, list, count)
     }
 
-    // Enters the k-th cell, if it is a pointer to the heap own.
-    fn enter_own(self, k: usize, list: &mut [u64], count: usize) -> usize
-        requires k_in_bounds { 3 * k + 2 < length self.cells.now }
-        requires room { Room list.old (enter same_ptr (members count list.old) (own_at self.own self.cells.now k)) }
-        ensures { members result list.new ≡ enter same_ptr (members count list.old) (own_at self.entry.own self.entry.cells.now k) }
+    // Enters a cell, if it is a pointer to the heap own.
+    fn enter_own(self, cell: [u64; 3], list: &mut [u64], count: usize) -> usize
+        requires { Room list.old (enter same_ptr (members count list.old) (pointers_to self.own (cells_of 1 cell))) }
+        ensures { members result list.new ≡ enter same_ptr (members count list.old) (pointers_to self.entry.own (cells_of 1 cell)) }
     {
-        let at = 3 * k;
-        if self.cells[at] != value::HEAP_STEP * self.own + value::POINTER {
+        let [tag, base, offset] = cell;
+        if tag != value::HEAP_STEP * self.own + value::POINTER {
             return count;
         }
-        let m = Member {
-            base: self.cells[at + 1],
-            offset: self.cells[at + 2],
-            heap: self.own,
-        };
-        enter_one(list, count, m)
+        let heap = self.own;
+        enter_one(list, count, Member { base, offset, heap })
     }
 
     // Enters each pointer to the heap own of the len cells from the from-th.
     fn scan(self, from: usize, len: usize, list: &mut [u64], count: usize) -> usize
         requires len_in_bounds { 3 * (from + len) ≤ length self.cells.now }
-        requires room { Room list.old (enter same_ptr (members count list.old) (flat (tab (own_at self.own self.cells.now) from len))) }
-        ensures { members result list.new ≡ enter same_ptr (members count list.old) (flat (tab (own_at self.entry.own self.entry.cells.now) from len)) }
+        requires room { Room list.old (enter same_ptr (members count list.old) (pointers_to self.own (cells_of len (drop (3 * from) self.cells.now)))) }
+        ensures { members result list.new ≡ enter same_ptr (members count list.old) (pointers_to self.entry.own (cells_of len (drop (3 * from) self.entry.cells.now))) }
     {
+        let (cells, _) = self.cells[3 * from..3 * (from + len)].as_chunks::<3>();
         let mut n = count;
-        for k in from..from + len {
-            n = self.enter_own(k, list, n);
+        for cell in cells {
+            n = self.enter_own(*cell, list, n);
         }
         n
+    }
+
+    // The length of the allocation at b, 0 where there is none.
+    fn len_at(self, b: usize) -> usize
+        ensures { result ≡ get_or self.entry.lens.now b 0 }
+    {
+        *self.lens.get(b).unwrap_or(&0) as usize
     }
 
     // The cell at which the heap's allocation b begins.
@@ -235,12 +226,8 @@ impl Generation<'_> {
         requires room { Room list.old (enter same_ptr (members count list.old) (leads_to self.own self.lens.now self.cells.now (ptr_at list.old p))) }
         ensures { members result list.new ≡ enter same_ptr (members count list.old) (leads_to self.entry.own self.entry.lens.now self.entry.cells.now (ptr_at list.old p)) }
     {
-        let at = 3 * p;
-        let b = list[at + 1] as usize;
-        if self.lens.len() <= b {
-            return count;
-        }
-        let len = self.lens[b] as usize;
+        let b = Member::at(list, p).base as usize;
+        let len = self.len_at(b);
         if len == 0 {
             return count;
         }

@@ -1,15 +1,16 @@
 use Rattle.trace.proofs.Places.{base-free, base-one, base-none}
 use Rattle.trace.proofs.Entering.{one-room, one-entered, none-entered}
 use Rattle.trace.proofs.Generation.enter_base.Goals as goal
+use Rattle.trace.proofs.Generation.enter_base.Goals.{then-len-eq0-via-then-len-eq0, then-len-eq0-via-else-len-eq0+then-not-matches}
 
-pub returns-then-self-b-eq0 : goal.returns-then-self-b-eq0
-returns-then-self-b-eq0 c = search (none-entered, base-free)
+pub returns-then-len-eq0 : goal.returns-then-len-eq0
+returns-then-len-eq0 c = elim c.then-len-eq0.branch [
+  | then-len-eq0-via-then-len-eq0 w ↦ search (none-entered, base-free)
+  | then-len-eq0-via-else-len-eq0+then-not-matches w ↦ search (none-entered, base-none)
+]
 
 pub enter_one-requires : goal.enter_one-requires
 enter_one-requires c = search (one-room, base-one)
 
-pub returns-then-matches : goal.returns-then-matches
-returns-then-matches c = search (one-entered, base-one)
-
 pub returns : goal.returns
-returns c = search (none-entered, base-none)
+returns c = search (one-entered, base-one)

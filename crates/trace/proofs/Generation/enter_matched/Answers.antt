@@ -1,27 +1,13 @@
-use mathlib.Core.Path.{◌≡◌, refl, sym, ◌∙◌}
-use mathlib.Core.Bool.{true}
-use mathlib.Core.List.{List, [], ◌∷◌}
-use Prim.Native.Nat.{ℕ}
-use native.Mathlib.Omega.{arith}
-use native.Mathlib.Nat.{sub-zero}
-use lib.ListN.{length}
+use Rattle.std.proofs.Common.{◌≡◌, ℕ, List, [], ◌∷◌, length, true, sym, refl, ◌∙◌, arith}
 use Rattle.std.specs.Bool.{◌==◌}
 use borrow.Author.Tests.{eqb-true}
-use borrow.Author.Rules.{rules}
 use Rattle.model.specs.Reach.{enter}
-use Rattle.model.specs.Records.{same_ptr}
 use Rattle.model.specs.Lists.{places, keep_if}
 use Rattle.model.specs.Barrier.{matches}
 use Rattle.model.specs.Nursery.{matched}
-use Rattle.trace.specs.Places.{base_at}
-use Rattle.trace.specs.Words.{members, Room}
-use Rattle.trace.proofs.Places.{bases-flat}
-use Rattle.trace.proofs.Entering.{Entering, enter-room, enter-turn, enter-done}
+use Rattle.trace.proofs.Places.{base-next, base-end}
+use Rattle.trace.proofs.Entering.{enter-begin, enter-room, enter-turn, enter-done}
 use Rattle.trace.proofs.Generation.enter_matched.Goals as goal
-
-begin : (own : ℕ) (ms lens w : List ℕ) (n : ℕ) → Room w (enter same_ptr (members n w) (matched own ms (places 0 lens)))
-    → Entering (base_at own ms lens) (length lens) (enter same_ptr (members n w) (matched own ms (places 0 lens))) (length w) 0 w n
-begin own ms lens w n r = record { within = omega arith; is = rw (sub-zero, bases-flat); len = refl; fits = r.fits }
 
 none-matched : (own : ℕ) (bs : List ℕ) → matched own [] bs ≡ []
 unfolding matched keep_if matches
@@ -39,16 +25,13 @@ returns-then-is_empty c =
     rw (none, none-matched c.args.self.own (places 0 c.args.self.lens.now))
 
 pub loop-b-init : goal.loop-b-init
-loop-b-init c = search begin
+loop-b-init c = enter-begin refl refl c.requires
 
 pub enter_base-n-requires : goal.enter_base-n-requires
-enter_base-n-requires c = record {
-  b_in_bounds = search rules;
-  room = search enter-room;
-}
+enter_base-n-requires c = enter-room c.loop-b.invariant _ _ (base-next _ _ _ _ c.loop-b-test.true)
 
 pub loop-b-preserved : goal.loop-b-preserved
-loop-b-preserved c = search enter-turn
+loop-b-preserved c = enter-turn c.loop-b.invariant _ _ (base-next _ _ _ _ c.loop-b-test.true) c.enter_base-n.auto.list c.enter_base-n.ensures
 
 pub returns : goal.returns
-returns c = search enter-done
+returns c = enter-done c.loop-b.invariant (base-end _ _ _ _ c.loop-b-test.false)

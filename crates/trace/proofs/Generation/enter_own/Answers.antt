@@ -2,8 +2,8 @@ use Rattle.trace.proofs.Places.{own-one, own-none}
 use Rattle.trace.proofs.Entering.{one-room, one-entered, none-entered}
 use Rattle.trace.proofs.Generation.enter_own.Goals as goal
 
-pub returns-then-self-at : goal.returns-then-self-at
-returns-then-self-at c = search (none-entered, own-none)
+pub returns-then-tag-self : goal.returns-then-tag-self
+returns-then-tag-self c = search (none-entered, own-none)
 
 pub enter_one-requires : goal.enter_one-requires
 enter_one-requires c = search (one-room, own-one)

@@ -1,31 +1,22 @@
-use mathlib.Core.Path.{◌≡◌, refl}
-use mathlib.Core.List.{List}
-use Prim.Native.Nat.{ℕ, ◌+◌, ◌-◌}
-use native.Mathlib.Omega.{arith}
-use lib.ListN.{length}
-use borrow.Author.Rules.{rules}
-use Rattle.model.specs.Reach.{enter}
-use Rattle.model.specs.Records.{Ptr, same_ptr}
-use Rattle.model.specs.Lists.{flat}
-use Rattle.trace.specs.Words.{tab, members, Room}
-use Rattle.trace.proofs.Entering.{Entering, enter-room, enter-turn, enter-done}
+use Rattle.std.proofs.Common.{◌≡◌, ℕ, ◌+◌, ◌*◌, ◌-◌, ◌/◌, ◌≤◌, List, length, take, drop, refl, ◌∙◌, arith, length-drop}
+use Rattle.std.specs.Simd.{first_chunks}
+use Rattle.trace.proofs.Chunks.{cut-chunks}
+use Rattle.trace.proofs.Places.{own-flat, piece-next, piece-none}
+use Rattle.trace.proofs.Entering.{enter-begin, enter-room, enter-turn, enter-done}
 use Rattle.trace.proofs.Generation.scan.Goals as goal
 
-begin : (f : ℕ → List Ptr) (from len : ℕ) (w : List ℕ) (n : ℕ) → Room w (enter same_ptr (members n w) (flat (tab f from len)))
-    → Entering f (from + len) (enter same_ptr (members n w) (flat (tab f from len))) (length w) from w n
-begin f from len w n r = let e : from + len - from ≡ len = omega arith in record { within = omega arith; is = rw e; len = refl; fits = r.fits }
+part-chunks : (f n : ℕ) (w : List ℕ) → 3 * (f + n) ≤ length w
+    → first_chunks 3 (length (take (3 * (f + n) - 3 * f) (drop (3 * f) w)) / 3) (take (3 * (f + n) - 3 * f) (drop (3 * f) w)) ≡ first_chunks 3 n (drop (3 * f) w)
+part-chunks f n w h = let e : 3 * (f + n) - 3 * f ≡ 3 * n = omega arith in rw e (cut-chunks n (drop (3 * f) w) (omega (arith, length-drop (3 * f) w)))
 
-pub loop-k-init : goal.loop-k-init
-loop-k-init c = search begin
+pub loop-cell-init : goal.loop-cell-init
+loop-cell-init c = enter-begin refl (own-flat _ _ _ (c.as_chunks.ensures.front ∙ part-chunks _ _ _ c.requires.len_in_bounds)) c.requires.room
 
 pub enter_own-n-requires : goal.enter_own-n-requires
-enter_own-n-requires c = record {
-  k_in_bounds = search rules;
-  room = search enter-room;
-}
+enter_own-n-requires c = enter-room c.loop-cell.invariant _ _ (piece-next _ _ _ _ c.loop-cell-test.true)
 
-pub loop-k-preserved : goal.loop-k-preserved
-loop-k-preserved c = search enter-turn
+pub loop-cell-preserved : goal.loop-cell-preserved
+loop-cell-preserved c = enter-turn c.loop-cell.invariant _ _ (piece-next _ _ _ _ c.loop-cell-test.true) c.enter_own-n.auto.list c.enter_own-n.ensures
 
 pub returns : goal.returns
-returns c = search enter-done
+returns c = enter-done c.loop-cell.invariant (piece-none _ _ _ c.loop-cell-test.false)

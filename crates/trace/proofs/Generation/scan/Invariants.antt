@@ -1,12 +1,12 @@
-use Prim.Native.Nat.{◌+◌}
-use lib.ListN.{length}
-use Rattle.model.specs.Reach.{enter}
-use Rattle.model.specs.Records.{same_ptr}
+use mathlib.Core.List.{map}
+use Prim.Native.Nat.{◌*◌}
+use lib.ListN.{length, drop}
 use Rattle.model.specs.Lists.{flat}
-use Rattle.trace.specs.Places.{own_at}
-use Rattle.trace.specs.Words.{tab, members}
+use Rattle.model.specs.Reach.{enter}
+use Rattle.model.specs.Records.{same_ptr, cells_of, pointers_to}
+use Rattle.trace.specs.Words.{members}
 use Rattle.trace.proofs.Entering.{Entering}
 use Rattle.trace.proofs.Generation.scan.Given as goal
 
-abbrev pub invariant-loop-k : goal.invariant-loop-k
-invariant-loop-k l = Entering (own_at l.self.own l.self.cells.now) (l.from + l.len) (enter same_ptr (members l.count l.initial.list) (flat (tab (own_at l.self.own l.self.cells.now) l.from l.len))) (length l.initial.list) l.k l.list l.n
+abbrev pub invariant-loop-cell : goal.invariant-loop-cell
+invariant-loop-cell l = Entering (flat (map (λ e. pointers_to l.self.own (cells_of 1 e)) (drop l.cell-index l.cells))) (enter same_ptr (members l.count l.initial.list) (pointers_to l.self.own (cells_of l.len (drop (3 * l.from) l.self.cells.now)))) (length l.initial.list) l.list l.n

@@ -1,60 +1,56 @@
-use mathlib.Core.Path.{◌≡◌}
-use mathlib.Core.List.{List}
-use Prim.Native.Nat.{ℕ, ◌+◌, ◌*◌, ◌^◌, ◌≤◌, ◌<◌}
+use Rattle.std.proofs.Common.{◌≡◌, Bool, true, false, ℕ, ◌+◌, ◌*◌, ◌^◌, ◌≤◌, ◌<◌, List, length, get_or, drop, ltb, refl, ◌∙◌, arith, ltb-true, ltb-false}
 use native.Mathlib.Nat.{pos_of_ne-zero}
-use native.Mathlib.Omega.{arith}
-use lib.ListN.{length, get_or, get_or-eq_default}
-use borrow.Author.Rules.{rules}
-use Rattle.model.specs.Lists.{flat}
+use lib.ListN.{get_or-eq_default}
+use Rattle.model.specs.Lists.{keep_if}
 use Rattle.model.specs.Reach.{enter}
-use Rattle.model.specs.Records.{Ptr, same_ptr}
-use Rattle.trace.specs.Words.{tab, ptr_at, Room}
-use Rattle.trace.specs.Places.{own_at}
+use Rattle.model.specs.Records.{Ptr, same_ptr, cells_of, pointers, pointers_to}
+use Rattle.trace.specs.declared.Member.{Member}
+use Rattle.trace.specs.Words.{ptr_of, Room}
 use Rattle.trace.specs.Leads.{begins_at, leads_to}
 use Rattle.trace.specs.Traces.{Within}
 use Rattle.trace.proofs.Heaps.{own-inside}
 use Rattle.trace.proofs.Generation.visit.Goals as goal
 
-module _ (own : ℕ) (ls cells w : List ℕ) (p : ℕ) where
-  -- the entry's base
-  abbrev b : ℕ
-  b = get_or w (3 * p + 1) 0
+-- the allocation at the base of m has n cells
+module _ (own : ℕ) (ls cells : List ℕ) (m : Member) {n : ℕ} (len : n ≡ get_or ls m.base 0) where
+  leads-nowhere : (l : List Ptr) {p : Ptr} → ptr_of m ≡ p → n ≡ 0 → l ≡ enter same_ptr l (leads_to own ls cells p)
+  unfolding leads_to pointers_to pointers keep_if cells_of enter
+  leads-nowhere l at e = rw (← at, ← len, e)
 
-  leads-nowhere : (l : List Ptr) → get_or ls b 0 ≡ 0 → l ≡ enter same_ptr l (leads_to own ls cells (ptr_at w p))
-  unfolding leads_to ptr_at tab flat enter
-  leads-nowhere l e = rw e
+  b-below : (n ≡ 0 → ⊥) → m.base ≤ length ls
+  b-below h = go (ltb m.base (length ls)) refl
+    where
+      go : (t : Bool) → ltb m.base (length ls) ≡ t → m.base ≤ length ls
+      go true e = omega (arith, ltb-true m.base (length ls) e)
+      go false e = absurd (h (len ∙ get_or-eq_default ls 0 (ltb-false m.base (length ls) e)))
 
-  leads-out : (l : List Ptr) → length ls ≤ b → l ≡ enter same_ptr l (leads_to own ls cells (ptr_at w p))
-  leads-out l h = leads-nowhere l (get_or-eq_default ls 0 h)
+  module _ (two : own < 2) (f : Within own ls cells) (h : n ≡ 0 → ⊥) where
+    inside : 3 * (begins_at own ls m.base + n) ≤ length cells
+    inside = rw len ((own-inside own ls cells two f).fits m.base (pos_of_ne-zero (λ e. h (len ∙ e))))
 
-  module _ (two : own < 2) (f : Within own ls cells) (h : get_or ls b 0 ≡ 0 → ⊥) where
-    inside : 3 * (begins_at own ls b + get_or ls b 0) ≤ length cells
-    inside = (own-inside own ls cells two f).fits b (pos_of_ne-zero h)
-
-    begin-fits : length cells < 2 ^ 64 → begins_at own ls b < 2 ^ 64
+    begin-fits : length cells < 2 ^ 64 → begins_at own ls m.base < 2 ^ 64
     begin-fits l = omega (arith, inside)
 
-    module _ (s : ℕ) (e : s ≡ begins_at own ls b) where
-      scan-within : 3 * (s + get_or ls b 0) ≤ length cells
-      scan-within = rw e inside
+    scan-within : (s : ℕ) → s ≡ begins_at own ls m.base → 3 * (s + n) ≤ length cells
+    scan-within s e = rw e inside
 
-      scan-room : (l : List Ptr) → Room w (enter same_ptr l (leads_to own ls cells (ptr_at w p))) → Room w (enter same_ptr l (flat (tab (own_at own cells) s (get_or ls b 0))))
-      unfolding leads_to ptr_at
-      scan-room l r = rw e r
+  module _ (s : ℕ) (e : s ≡ begins_at own ls m.base) {p : Ptr} (at : ptr_of m ≡ p) where
+    leads : leads_to own ls cells p ≡ pointers_to own (cells_of n (drop (3 * s) cells))
+    unfolding leads_to
+    leads = rw (← at, ← len, ← e)
 
-      scan-done : {m : List Ptr} (l : List Ptr) → m ≡ enter same_ptr l (flat (tab (own_at own cells) s (get_or ls b 0))) → m ≡ enter same_ptr l (leads_to own ls cells (ptr_at w p))
-      unfolding leads_to ptr_at
-      scan-done l q = rw e at q
+    scan-room : (w : List ℕ) (l : List Ptr) → Room w (enter same_ptr l (leads_to own ls cells p)) → Room w (enter same_ptr l (pointers_to own (cells_of n (drop (3 * s) cells))))
+    scan-room w l r = rw leads at r
 
-pub returns-then-self-b : goal.returns-then-self-b
-returns-then-self-b c = search leads-out
+    scan-done : (l k : List Ptr) → k ≡ enter same_ptr l (pointers_to own (cells_of n (drop (3 * s) cells))) → k ≡ enter same_ptr l (leads_to own ls cells p)
+    scan-done l k q = rw leads q
 
 pub returns-then-len-eq0 : goal.returns-then-len-eq0
 returns-then-len-eq0 c = search leads-nowhere
 
 pub begins_at-from-requires : goal.begins_at-from-requires
 begins_at-from-requires c = record {
-  b_in_bounds = search rules;
+  b_in_bounds = search b-below;
   b_bound = search begin-fits;
 }
 
