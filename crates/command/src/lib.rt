@@ -91,14 +91,8 @@ fn target_of(v: Value, offset: i64) -> Result<Pointer, Question>
     let Value::Pointer(p) = v else {
         return Err(Question::Pointer);
     };
-    let Some(offset) = p.offset.checked_add(offset) else {
-        return Err(Question::Range);
-    };
-    Ok(Pointer {
-        heap: p.heap,
-        base: p.base,
-        offset,
-    })
+    let offset = p.offset.checked_add(offset).ok_or(Question::Range)?;
+    Ok(Pointer { offset, ..p })
 }
 
 // The value goes to answer and register as it was read.
@@ -147,18 +141,18 @@ fn report_in(image: &mut [u64]) -> Result<Answer, Question>
 // ---- New
 
 // The program's bounds of the sizes.
-const MOST_N: u64 = 128;
+const MOST: Sizes = Sizes {
+    n: 128,
+    t: 8192,
+    s: 128,
+    c: 512,
+};
 
-const MOST_T: u64 = 8192;
-
-const MOST_S: u64 = 128;
-
-const MOST_C: u64 = 512;
-
+#[tactic(auto, using(std::proofs::Common::tests), unfolding(model::specs::Run::program_bounds))]
 fn is_bounded(z: Sizes) -> bool
     ensures { result ≡ program_bounds (model_sizes z) }
 {
-    z.n <= MOST_N && z.t <= MOST_T && z.s <= MOST_S && z.c <= MOST_C
+    z.n <= MOST.n && z.t <= MOST.t && z.s <= MOST.s && z.c <= MOST.c
 }
 
 // The first heap, with its words: 14 got a yes. 1 asks of the program's limits.
@@ -205,7 +199,7 @@ fn act(
             offset,
         } => {
             let w = Words {
-                tag: tag as u64,
+                tag: u64::from(tag),
                 payload,
                 offset,
             };
@@ -235,10 +229,10 @@ impl State {
             && let Command::New { n, t, s, c } = command
         {
             let z = Sizes {
-                n: n as u64,
-                t: t as u64,
-                s: s as u64,
-                c: c as u64,
+                n: u64::from(n),
+                t: u64::from(t),
+                s: u64::from(s),
+                c: u64::from(c),
             };
             self.words = make(buffer, z)?;
             return Ok(Answer::New);

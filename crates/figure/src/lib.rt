@@ -12,10 +12,10 @@ pub mod text;
 use question::Question;
 use std::cmp::Ordering;
 
+// A whole number of thousandths, so that zero has no sign.
 #[derive(Clone, Copy)]
 pub struct Figure {
-    pub negative: bool,
-    pub thousandths: u64,
+    pub thousandths: i64,
 }
 
 // The most thousandths: 999999.999.
@@ -47,16 +47,16 @@ fn thousandths(q: u64, h: u64) -> u64
     round(1000 * q, 1u64 << h)
 }
 
-// The limit on the rounded number. Zero has no sign.
+// The limit on the rounded number, and its sign.
 fn within_limit(negative: bool, k: u64) -> Result<Figure, Question>
     ensures { figured_answer result ≡ limited negative k }
 {
     if MOST < k {
         return Err(Question::Figure);
     }
+    let k = k as i64;
     Ok(Figure {
-        negative: negative && 0 < k,
-        thousandths: k,
+        thousandths: if negative { -k } else { k },
     })
 }
 
@@ -111,8 +111,8 @@ pub fn figure_text(f: Figure, out: &mut [u8], at: usize) -> usize
     requires { at + 25 ≤ length out.old }
     ensures { Wrote (figure_text (model_figure f)) out.old at out.new result }
 {
-    let k = f.thousandths;
-    let whole = text::minus(f.negative, out, at);
+    let k = f.thousandths.unsigned_abs();
+    let whole = text::minus(f.thousandths < 0, out, at);
     let point = text::decimal(k / 1000, out, whole);
     decimals(k, out, point)
 }

@@ -10,7 +10,7 @@ use std::io;
 use std::io::{Read, Write};
 
 // A byte more than the longest file has, which tells that a file is too long.
-const FILE: usize = 65537;
+const FILE: usize = listing::FILE + 1;
 
 // Words for an image of the program's largest heap, and for its scratch.
 const IMAGE: usize = 2698;

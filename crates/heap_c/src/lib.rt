@@ -100,7 +100,7 @@ impl Words<7> for Allocation {
         let elder = self.elder;
         let offset = p.offset.cast_unsigned();
         [
-            p.heap as u64,
+            u64::from(p.heap),
             p.base,
             offset,
             nursery.collections,
@@ -241,7 +241,10 @@ impl Words<2> for Figure {
     ghost words = { λ f. figure_words (model_figure f) };
 
     fn to_words(self) -> [u64; 2] {
-        [self.negative as u64, self.thousandths]
+        [
+            u64::from(self.thousandths < 0),
+            self.thousandths.unsigned_abs(),
+        ]
     }
 }
 

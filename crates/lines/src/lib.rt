@@ -48,7 +48,7 @@ fn cell_numbers(v: Value) -> [u64; 4]
     match v {
         Value::Pointer(p) => [
             value::POINTER,
-            p.heap as u64,
+            u64::from(p.heap),
             p.base,
             p.offset.cast_unsigned(),
         ],
@@ -70,7 +70,7 @@ fn alloc_text(a: Allocation, out: &mut [u8], at: usize) -> usize
     let young = a.nursery;
     let old = a.elder;
     let place = word(b"alloc", out, at);
-    let sign = each_spaced(&[p.heap as u64, p.base], out, place);
+    let sign = each_spaced(&[u64::from(p.heap), p.base], out, place);
     let offset = figure::text::byte(b' ', out, sign);
     let counts = figure::text::signed(p.offset, out, offset);
     each_spaced(

@@ -14,7 +14,7 @@ use reader::Command;
 use registers::Registers;
 
 // The most bytes of a file, and of a line.
-const FILE: usize = 65536;
+pub const FILE: usize = 65536;
 
 const LINE: usize = 259;
 

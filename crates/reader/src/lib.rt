@@ -181,12 +181,9 @@ fn command_at(file: &[u8], at: usize) -> Result<(Command, usize), Question>
 {
     let from = at + 1;
     let opcode = Opcode::try_from(file[at])?;
-    let k = opcode.operands();
-    if file.len() - from < k {
-        return Err(Question::Command);
-    }
-    let behind = from + k;
-    let command = opcode.command(&file[from..behind]);
+    let behind = from + opcode.operands();
+    let operands = file.get(from..behind).ok_or(Question::Command)?;
+    let command = opcode.command(operands);
     if !registers_hold(command) {
         return Err(Question::Command);
     }
@@ -241,8 +238,5 @@ pub fn read_at(file: &[u8], at: usize) -> Option<Result<(Command, usize), Questi
     ensures { next_answer result ≡ next_at file.now at }
 {
     let mut reader = Reader::new(file, at);
-    match reader.next()? {
-        Ok(command) => Some(Ok((command, reader.at))),
-        Err(q) => Some(Err(q)),
-    }
+    Some(reader.next()?.map(|command| (command, reader.at)))
 }
