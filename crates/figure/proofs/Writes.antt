@@ -9,7 +9,8 @@ use native.Mathlib.Omega.{arith}
 use lib.ListN.{length, take, drop, set, length-append, length-drop}
 use Rattle.std.proofs.lemmas.List.{take-append-drop}
 use lib.Seq.{paste-zero, append_snoc, set_split, take_at, drop_at, drop-drop, length-take-le}
-use Rattle.figure.specs.Written.{written, Wrote}
+use Rattle.figure.specs.Written.{written, Wrote, Writes}
+use Rattle.figure.specs.declared.text.Text.{Text}
 
 pub wrote_none : (b : List ℕ) (at : ℕ) → at ≤ length b → Wrote [] b at b at
 unfolding written
@@ -56,6 +57,18 @@ wrote-both {s} {t} {b} {m} {a} {at} {e} {r} v w = record {
   where
     both : length (s ++ t) ≡ length s + length t
     both = length-append s t
+
+-- ---- The same of a place in lent bytes
+
+pub writes : {s : List ℕ} {a b : Text} → Wrote s a.out.now a.at b.out.now b.at → b.out.ghost_name ≡ a.out.ghost_name → Writes s a b
+writes {s} {a} {b} w e = record { wrote = w; kept = ap length w.bytes ∙ length-written a.out.now a.at s w.room; same = e }
+
+pub writes-both : {s t : List ℕ} {a b c : Text} → Writes s a b → Writes t b c → Writes (s ++ t) a c
+writes-both v w = record { wrote = wrote-both v.wrote w.wrote; kept = w.kept ∙ v.kept; same = w.same ∙ v.same }
+
+-- once the bytes are handed back
+pub handed-back : {s g : List ℕ} {a b : Text} → Writes s a b → g ≡ b.out.now → Wrote s a.out.now a.at g b.at
+handed-back w e = rw e w.wrote
 
 pub sign-length : (b : Bool) (x : ℕ) → length (cond b (x ∷ []) []) ≤ 1
 sign-length true x = omega arith

@@ -5,12 +5,13 @@ ghost use Rattle.std.specs.Prelude.{◌≡◌, [], ◌∷◌, ◌+◌, ◌*◌, 
 ghost use Rattle.model.specs.Figure.{rounded, figure_of, figure};
 ghost use Rattle.model.specs.Listing.{figure_text};
 ghost use Rattle.figure.specs.Answer.{model_figure, figured_answer, limited};
-ghost use Rattle.figure.specs.Written.{Wrote};
+ghost use Rattle.figure.specs.Written.{Room, Writes};
 
 pub mod text;
 
 use question::Question;
 use std::cmp::Ordering;
+use text::Text;
 
 // A whole number of thousandths, so that zero has no sign.
 #[derive(Clone, Copy)]
@@ -95,24 +96,26 @@ pub fn figure_of(x: f64) -> Result<Figure, Question>
     figure_of_bits(f64::to_bits(x))
 }
 
-// The point and three decimals.
-fn decimals(k: u64, out: &mut [u8], at: usize) -> usize
-    requires { at + 4 ≤ length out.old }
-    ensures { Wrote (0x2E ∷ (48 + k / 100 % 10) ∷ (48 + k / 10 % 10) ∷ (48 + k % 10) ∷ []) out.old at out.new result }
-{
-    let first = text::byte(b'.', out, at);
-    let second = text::digit(k / 100, out, first);
-    let third = text::digit(k / 10, out, second);
-    text::digit(k, out, third)
-}
+impl Text<'_> {
+    // The point and three decimals.
+    fn decimals(&mut self, k: u64)
+        requires { Room 4 self.old }
+        ensures { Writes (0x2E ∷ (48 + k / 100 % 10) ∷ (48 + k / 10 % 10) ∷ (48 + k % 10) ∷ []) self.old self.new }
+    {
+        self.byte(b'.');
+        self.digit(k / 100);
+        self.digit(k / 10);
+        self.digit(k);
+    }
 
-// Writes the figure with three decimals, leaves the rest as it was, and returns the place behind it.
-pub fn figure_text(f: Figure, out: &mut [u8], at: usize) -> usize
-    requires { at + 25 ≤ length out.old }
-    ensures { Wrote (figure_text (model_figure f)) out.old at out.new result }
-{
-    let k = f.thousandths.unsigned_abs();
-    let whole = text::minus(f.thousandths < 0, out, at);
-    let point = text::decimal(k / 1000, out, whole);
-    decimals(k, out, point)
+    // The figure with three decimals.
+    pub fn figure(&mut self, f: Figure)
+        requires { Room 25 self.old }
+        ensures { Writes (figure_text (model_figure f)) self.old self.new }
+    {
+        let k = f.thousandths.unsigned_abs();
+        self.minus(f.thousandths < 0);
+        self.decimal(k / 1000);
+        self.decimals(k);
+    }
 }

@@ -33,7 +33,8 @@ use report::Statistics;
 use value::{Pointer, Value};
 
 // What is handed to C as N words. It is no `From` of std's: that has to stand in the type's own crate (an orphan is refused), so that
-// arrays which only C wants, and what they say, would stand in value, collector and figure.
+// arrays which only C wants, and what they say, would stand in value, collector and figure. By functions and `map` each of the
+// seven calls would name the function beside the type that tells it.
 trait Words<const N: usize>: Copy {
     ghost words: { Self → List ℕ };
 

@@ -1,5 +1,5 @@
 -- A word's bytes, and numbers each after a space.
-use mathlib.Core.Path.{◌≡◌, refl, sym, ◌∙◌}
+use mathlib.Core.Path.{◌≡◌, refl, sym}
 use mathlib.Core.List.{List, [], ◌∷◌, ◌++◌, append_assoc}
 use Prim.Native.Nat.{ℕ, ◌+◌, ◌-◌, ◌*◌, ◌≤◌, ◌<◌}
 use native.Mathlib.Numerals.{add-one}
@@ -7,9 +7,10 @@ use native.Mathlib.Omega.{arith}
 use lib.ListN.{length, get_or, take, drop, length-append}
 use lib.Seq.{drop-drop, take-suc}
 use Rattle.model.specs.Listing.{decimal, spaced}
-use Rattle.figure.specs.Written.{written, Wrote}
+use Rattle.figure.specs.Written.{written, Wrote, Room, Writes}
+use Rattle.figure.specs.declared.text.Text.{Text}
 use Rattle.figure.proofs.Digits.{decimal-length}
-use Rattle.figure.proofs.Writes.{wrote_none, wrote-both}
+use Rattle.figure.proofs.Writes.{wrote_none, writes, writes-both}
 use Rattle.lines.specs.Longest.{longest_spaced}
 
 -- ---- `word`: its bytes replace a part
@@ -32,21 +33,19 @@ unfolding spaced
 spaced-length [] = omega arith
 spaced-length (x ∷ n) = omega (arith, length-append (decimal x) (spaced n), decimal-length x, spaced-length n)
 
-pub record Spacing (n out₀ : List ℕ) (at : ℕ) (out : List ℕ) (end i : ℕ) : Type 0 where
+pub record Spacing (n : List ℕ) (a t : Text) (i : ℕ) : Type 0 where
   pub within : i ≤ length n
-  pub same : length out ≡ length out₀
-  pub short : end ≤ at + longest_spaced * i
-  pub done : Wrote (spaced (take i n)) out₀ at out end
+  pub short : t.at ≤ a.at + longest_spaced * i
+  pub done : Writes (spaced (take i n)) a t
 
-pub space-begin : (n out : List ℕ) (at : ℕ) → at + longest_spaced * length n ≤ length out → Spacing n out at out at 0
+pub space-begin : (n : List ℕ) (t : Text) → Room (longest_spaced * length n) t → Spacing n t t 0
 unfolding spaced
-space-begin n out at h = record { within = omega arith; same = refl; short = omega arith; done = wrote_none out at (omega arith) }
+space-begin n t h = record { within = omega arith; short = omega arith; done = writes (wrote_none t.out.now t.at (omega arith)) refl }
 
-module _ {n out₀ : List ℕ} {at : ℕ} {out : List ℕ} {end i : ℕ} (v : Spacing n out₀ at out end i) where
-  pub space-again : {out' : List ℕ} {end' : ℕ} → i < length n → length out' ≡ length out → Wrote (spaced (get_or n i 0 ∷ [])) out end out' end' → Spacing n out₀ at out' end' (i + 1)
-  space-again l k w = record {
+module _ {n : List ℕ} {a t : Text} {i : ℕ} (v : Spacing n a t i) where
+  pub space-again : {u : Text} → i < length n → Writes (spaced (get_or n i 0 ∷ [])) t u → Spacing n a u (i + 1)
+  space-again l w = record {
     within = omega arith;
-    same = k ∙ v.same;
-    short = omega (arith, v.short, w.behind, spaced-length (get_or n i 0 ∷ []));
-    done = rw (add-one i, take-suc n i 0 l, spaced-both (take i n) (get_or n i 0 ∷ [])) (wrote-both v.done w);
+    short = omega (arith, v.short, w.wrote.behind, spaced-length (get_or n i 0 ∷ []));
+    done = rw (add-one i, take-suc n i 0 l, spaced-both (take i n) (get_or n i 0 ∷ [])) (writes-both v.done w);
   }

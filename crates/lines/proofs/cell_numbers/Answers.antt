@@ -14,7 +14,7 @@ pub returns-in-Pointer : goal.returns-in-Pointer
 unfolding cell_text value_cell
 returns-in-Pointer c =
     let p = c.in-Pointer.p in
-    rw c.in-Pointer.is (ap (λ (o : ℕ). spaced (5 ∷ p.heap ∷ p.base ∷ o ∷ [])) (c.cast_unsigned.ensures ∙ ap (of_z w64) (to_z-of_z w64 p.offset (search rules))))
+    rw (c.in-Pointer.is, c.from.ensures) (ap (λ (o : ℕ). spaced (5 ∷ p.heap ∷ p.base ∷ o ∷ [])) (c.cast_unsigned.ensures ∙ ap (of_z w64) (to_z-of_z w64 p.offset (search rules))))
 
 pub returns-in_default : goal.returns-in_default
 returns-in_default c =

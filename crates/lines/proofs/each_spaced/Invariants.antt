@@ -2,4 +2,4 @@ use Rattle.lines.proofs.Loops.{Spacing}
 use Rattle.lines.proofs.each_spaced.Given as goal
 
 abbrev pub invariant-loop-x : goal.invariant-loop-x
-invariant-loop-x l = Spacing l.n l.initial.out l.at l.out l.end l.x-index
+invariant-loop-x l = Spacing l.n l.initial.t l.t l.x-index

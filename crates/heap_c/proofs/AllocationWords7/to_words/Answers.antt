@@ -9,4 +9,4 @@ use Rattle.heap_c.proofs.AllocationWords7.to_words.Goals as goal
 pub returns : goal.returns
 returns c =
     let a = c.args.self in
-    words-in a (c.cast_unsigned-offset.ensures ∙ ap (of_z w64) (to_z-of_z w64 a.pointer.offset (search rules)))
+    rw c.from.ensures (words-in a (c.cast_unsigned-offset.ensures ∙ ap (of_z w64) (to_z-of_z w64 a.pointer.offset (search rules))))
