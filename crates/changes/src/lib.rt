@@ -11,24 +11,13 @@ ghost use Rattle.changes.specs.Changes.{times, count_change};
 use barrier::WriteBarrier;
 use question::Question;
 use slots::Move;
-use value::{Pointer, Value};
 
 // One such cell: (heap, base, offset) out, then (1, new, 0) in.
 pub fn count_change(own: u8, moved: Move, barrier: WriteBarrier) -> Result<WriteBarrier, Question>
     ensures { answer barrier_of result ≡ count_change own (move_of moved) (barrier_of barrier) }
 {
-    let was = Pointer {
-        heap: moved.heap,
-        base: moved.base,
-        offset: moved.offset.cast_signed(),
-    };
-    let is = Pointer {
-        heap: 1,
-        base: moved.new,
-        offset: 0,
-    };
-    let less = barrier.count_out(own, Value::Pointer(was))?;
-    less.count_in(own, Value::Pointer(is))
+    let less = barrier.count_out(own, moved.was())?;
+    less.count_in(own, moved.becomes())
 }
 
 // All k of them; the first refusal ends it.

@@ -16,7 +16,7 @@ pub fn save(image: Formed<'_>, scratch: &mut [u64]) -> usize
     ensures { SavedTo image.entry.words.now result scratch.new }
 {
     let l = places::layout_of(image.words);
-    let used = l.old + 3 * slots::in_use(l.slot_lengths(image.words));
+    let used = l.old + 3 * words::sum(l.slot_lengths(image.words));
     words::copy_words(scratch, 0, &image.words[..used]);
     used
 }

@@ -15,7 +15,7 @@ use Rattle.std.proofs.Common.{Result, Ok, Err}
 use Rattle.model.specs.Lists.{flat, only_if}
 use Rattle.model.specs.Res.{Res, ok, refuse, ◌>>=◌, each}
 use Rattle.model.specs.Reach.{mem}
-use Rattle.model.specs.Records.{Ptr, Cell, cell_words, valid, all_valid, whole_cells, same_ptr}
+use Rattle.model.specs.Records.{Ptr, Cell, cell_words, valid, all_valid, whole_cells, whole, same_ptr}
 use Rattle.model.specs.Barrier.{Barrier, count_out}
 use Rattle.model.specs.Heap.{in_use}
 use Rattle.model.specs.Elder.{keeps, count_dropped}
@@ -28,12 +28,11 @@ use Rattle.barrier.specs.declared.WriteBarrier.{WriteBarrier}
 use Rattle.barrier.specs.Counts.{barrier_of, any_crossing}
 use Rattle.barrier.proofs.Steps.{steps-out}
 use Rattle.barrier.proofs.Turns.{quiet}
-use Rattle.trace.specs.Words.{pointer}
 use Rattle.slots.specs.Slots.{Packed}
 use Rattle.slots.proofs.Flat.{flat-split, use-split, use-next}
 use Rattle.slots.proofs.Counts.{packed-length, packed-size}
 use Rattle.slots.proofs.Places.{at_slot}
-use Rattle.slots.proofs.Packs.{keeps-is}
+use Rattle.slots.proofs.Packs.{keeps-found}
 
 valid-left : (a b : List Cell) → all_valid (a ++ b) ≡ true → all_valid a ≡ true
 unfolding all_valid
@@ -54,16 +53,16 @@ slot_out ps b cs = each (count_out 1) (only_if (not (keeps ps b)) cs)
 abbrev Counts : List Ptr → ℕ → List ℕ → Bool
 Counts ps b w = any_crossing 1 w && not (keeps ps b)
 
-pub empty-stays : (ps : List Ptr) (b : ℕ) (w : List ℕ) → true ≡ (length w == 0) → false ≡ Counts ps b w
+pub empty-stays : (ps : List Ptr) (b : ℕ) (w : List ℕ) → (length w == 0) ≡ true → false ≡ Counts ps b w
 unfolding any_crossing
 empty-stays ps b [] e = refl
-empty-stays ps b (x ∷ w) e = absurd (omega (arith, eqb-true (length (x ∷ w)) 0 (sym e)))
+empty-stays ps b (x ∷ w) e = absurd (omega (arith, eqb-true (length (x ∷ w)) 0 e))
 
 pub quiet-stays : (ps : List Ptr) (b : ℕ) (w : List ℕ) {r : Bool} → r ≡ any_crossing 1 w → r ≡ false → false ≡ Counts ps b w
 quiet-stays ps b w e q = rw (← e, q)
 
-pub found-stays : (ps : List Ptr) (b : ℕ) (w : List ℕ) {r t : Bool} → r ≡ any_crossing 1 w → r ≡ true → t ≡ mem same_ptr (pointer 1 b 0) ps → not t ≡ Counts ps b w
-found-stays ps b w e q f = rw (← e, q, ← keeps-is ps b, ← f)
+pub found-stays : (ps : List Ptr) (b : ℕ) (w : List ℕ) {r : Bool} → r ≡ any_crossing 1 w → r ≡ true → {m : Ptr} → m ≡ whole 1 b → {t : Bool} → t ≡ mem same_ptr m ps → not t ≡ Counts ps b w
+found-stays ps b w e q d f = rw (← e, q, ← keeps-found ps b d f)
 
 slot-stays : (ps : List Ptr) (b : ℕ) (w : List ℕ) (z : Barrier) → whole_cells w ≡ true → Counts ps b w ≡ false → slot_out ps b (cells_in w) z ≡ ok z
 slot-stays ps b w z h e = go (keeps ps b) (any_crossing 1 w) refl e
@@ -153,4 +152,6 @@ module _ {ps : List Ptr} {ls ws : List ℕ} {ss : List (List Cell)} {z₀ z : Ba
           let no : slot_out ps b (cells_in part) z ≡ refuse (number q) = counted-out ∙ rw refused in
           rw no at next
 
-pub ruleset laws = (left-begin, left_end, left-fits, left-fits-3, left-whole)
+pub ruleset told = (empty-stays, quiet-stays, found-stays)
+
+pub ruleset laws = (left_end, left-fits, left-fits-3, left-whole)

@@ -14,6 +14,7 @@ use question::Question;
 use trace::Member;
 
 // Whether the slot at base b has cells to count out: one crosses, and (1, b, 0) is no member.
+#[tactic(auto, using(crate::proofs::Drops::told))]
 fn is_counted(slot: &[u64], b: usize, members: &[u64]) -> bool
     requires { whole_cells slot.now ≡ true }
     ensures { result ≡ (any_crossing 1 slot.now && not (keeps (listed members.now) b)) }
@@ -22,18 +23,11 @@ fn is_counted(slot: &[u64], b: usize, members: &[u64]) -> bool
     if slot.is_empty() {
         return false;
     }
-    if cells::any_crosses(slot, 1) {
-        let m = Member {
-            base: b as u64,
-            offset: 0,
-            heap: 1,
-        };
-        return !trace::find(members, m);
-    }
-    false
+    cells::any_crosses(slot, 1) && !trace::find(members, Member::start(1, b as u64))
 }
 
 // All slots in base order; the first refusal ends it. The barrier, which is long, is handed on only where something is counted.
+#[tactic(auto, using(crate::proofs::Drops::laws))]
 pub fn count_dropped(
     lens: &[u64],
     cells: &[u64],
@@ -44,8 +38,8 @@ pub fn count_dropped(
     ensures { answer barrier_of result ≡ count_dropped (listed members.now) 0 (slots_of lens.now cells.now) (barrier_of barrier) }
 {
     let mut at: usize = 0;
-    for b in 0..lens.len() {
-        let end = at + 3 * lens[b] as usize;
+    for (b, len) in lens.iter().enumerate() {
+        let end = at + 3 * *len as usize;
         if is_counted(&cells[at..end], b, members) {
             barrier = cells::count_cells(&cells[at..end], 1, false, barrier)?;
         }

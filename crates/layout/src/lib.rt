@@ -61,7 +61,7 @@ fn fit_in(lens: &[u64], c: usize, len: usize) -> Result<usize, Question>
     let Some(old) = lens.get(b) else {
         return Err(Question::Room);
     };
-    let used = slots::in_use(lens) - *old as usize;
+    let used = words::sum(lens) - *old as usize;
     if c - used < len {
         return Err(Question::Room);
     }

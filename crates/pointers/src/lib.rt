@@ -36,7 +36,7 @@ fn swap_young(image: &mut [u64], moved: Move) -> usize
     let l = places::layout_of(image);
     let from = l.young;
     let end = from + 3 * n;
-    slots::swap_cells(&mut image[from..end], n, moved)
+    slots::swap_cells(&mut image[from..end], moved)
 }
 
 // So many such cells counted on the barrier of heap `own`.
@@ -107,9 +107,8 @@ pub fn change_roots(roots: &mut [u64], members: &[u64], bases: &[u64])
     requires { whole_cells roots.old ≡ true }
     ensures { roots.new ≡ cell_words (swap_roots (moves_of members.now bases.now) (cells_in roots.old)) }
 {
-    let n = roots.len() / 3;
     let (entries, _) = members.as_chunks::<3>();
     for (entry, base) in entries.iter().zip(bases) {
-        slots::swap_cells(roots, n, member_move(Member::from(*entry), *base));
+        slots::swap_cells(roots, member_move(Member::from(*entry), *base));
     }
 }

@@ -84,7 +84,7 @@ fn references(image: Formed<'_>, own: u8) -> u64
     } else {
         &image.words[image::layout::OLD_COUNTS..image::layout::LENGTHS]
     };
-    slots::in_use(counts) as u64
+    words::sum(counts) as u64
 }
 
 fn young_numbers(image: Formed<'_>) -> Nursery
@@ -114,7 +114,7 @@ fn old_numbers(image: Formed<'_>) -> Elder
     let lens = l.slot_lengths(image.words);
     let collections = fields::header_of(image).old_collections;
     let allocations = slots::held(lens) as u64;
-    let cells = slots::in_use(lens) as u64;
+    let cells = words::sum(lens) as u64;
     let references = references(image, 1);
     Elder {
         collections,

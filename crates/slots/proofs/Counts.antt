@@ -11,7 +11,7 @@ use lib.Dec.{ltb}
 use lib.ListN.{length, get_or, take, drop, replicate, length-map, length-drop, get_or-map, get_or-eq_default}
 use lib.Seq.{drop-cons, drop-length, length-take-le, drop_at}
 use borrow.Author.Tests.{lt-ltb, le-ltb}
-use Rattle.std.specs.Prelude.{Some, None}
+use Rattle.std.specs.Prelude.{Option, Some, None}
 use Rattle.model.specs.Lists.{cons_if, flat, places, sum}
 use Rattle.model.specs.Res.{ok}
 use Rattle.model.specs.Records.{Cell, blank, cell_words}
@@ -100,36 +100,37 @@ module _ {ls ws : List ℕ} {ss : List (List Cell)} (v : Packed ls ws ss) where
     unfolding read_old answer valid_old
     none h = record { is = rw (le-ltb o (length (get_or ss b [])) h); valid = refl }
 
-    pub read_out : length ls ≤ b → ReadBy (read_old ss b o) None
-    read_out h = none (omega (arith, packed-length b, get_or-eq_default ls 0 h))
+    pub read_out : length ls ≤ b → {r : Option Words} → r ≡ None → ReadBy (read_old ss b o) r
+    read_out h e = rw e (none (omega (arith, packed-length b, get_or-eq_default ls 0 h)))
 
-    pub read_past : get_or ls b 0 ≤ o → ReadBy (read_old ss b o) None
-    read_past h = none (omega (arith, packed-length b))
+    module _ {n : ℕ} (got : (b < length ls) × ((d : ℕ) → n ≡ get_or ls b d)) where
+      pub read_past : n ≤ o → ReadBy (read_old ss b o) None
+      read_past h = none (omega (arith, packed-length b, got.1 0))
 
-    module _ (h : b < length ls) (k : o < get_or ls b 0) (f : ℕ) (e : f ≡ sum (take b ls)) where
-      read_below : f + o < in_use ss
-      read_below = omega (arith, packed-length b, packed_start b, use-split ss b (omega (arith, packed-size)))
+      module _ (k : o < n) (f : ℕ) (e : f ≡ sum (take b ls)) where
+        read_below : f + o < in_use ss
+        read_below = omega (arith, packed-length b, got.1 0, packed_start b, use-split ss b (omega (arith, packed-size, got.0)))
 
-      pub read_fits : length ws < 2 ^ 64 → Fits w64 (f + o)
-      read_fits l = omega (arith, read_below, v.fits)
+        pub read_fits : length ws < 2 ^ 64 → Fits w64 (f + o)
+        read_fits l = omega (arith, read_below, v.fits)
 
-      pub read-room : (f + o) * 3 + 3 ≤ length ws
-      read-room = omega (arith, read_below, v.fits)
+        pub read-room : (f + o) * 3 + 3 ≤ length ws
+        read-room = omega (arith, read_below, v.fits)
 
-      pub read_cell : {r : Words} → r ≡ words_at ws (3 * (f + o)) → ReadBy (read_old ss b o) (Some r)
-      unfolding read_old answer valid_old padded in_use
-      read_cell g =
-          let i : ℕ = in_use (take b ss) + o in
-          let q : f + o ≡ i = omega (arith, packed_start b) in
-          let z : List ℕ = replicate (length ws - length (cell_words (flat ss))) 0 in
-          let p : o < length (get_or ss b []) = omega (arith, packed-length b) in
-          let j : i < length (flat ss) = omega (arith, read_below, packed_start b) in
-          let c : Cell = get_or (flat ss) i blank in
-          let u = valid-at (flat ss) i j v.valid in
-          rw (g, q, kind_at (flat ss) z v.cells i j, payload-at (flat ss) z v.cells i j, offset_at (flat ss) z v.cells i j) (record {
-            is = rw (lt-ltb o (length (get_or ss b [])) p) (ap ok (cell-back c u ∙ slot-cell ss b o p));
-            valid = valid-words c u;
-          })
+        pub read_cell : {r : Words} → r ≡ words_at ws (3 * (f + o)) → ReadBy (read_old ss b o) (Some r)
+        unfolding read_old answer valid_old padded in_use
+        read_cell g =
+            let i : ℕ = in_use (take b ss) + o in
+            let q : f + o ≡ i = omega (arith, packed_start b) in
+            let z : List ℕ = replicate (length ws - length (cell_words (flat ss))) 0 in
+            let p : o < length (get_or ss b []) = omega (arith, packed-length b, got.1 0) in
+            let j : i < length (flat ss) = omega (arith, read_below, packed_start b) in
+            let c : Cell = get_or (flat ss) i blank in
+            let u = valid-at (flat ss) i j v.valid in
+            rw (g, q, kind_at (flat ss) z v.cells i j, payload-at (flat ss) z v.cells i j, offset_at (flat ss) z v.cells i j) (record {
+              is = rw (lt-ltb o (length (get_or ss b [])) p) (ap ok (cell-back c u ∙ slot-cell ss b o p));
+              valid = valid-words c u;
+            })
 
 pub elder-is : {s at : ℕ} {w : List ℕ} {ss : List (List Cell)} → Elder s at w ss → slots_at s at w ≡ ss
 unfolding slots_at
@@ -156,6 +157,9 @@ module _ {s at : ℕ} {w : List ℕ} {ss : List (List Cell)} (v : Elder s at w s
 
 pub hole-fits : (l : List ℕ) (b x : ℕ) → sum l * 3 < 2 ^ 64 → x ≡ sum (take b l) → Fits w64 (3 * x)
 hole-fits l b x h e = omega (arith, sum-front l b)
+
+pub hole-inside : (l : List ℕ) (b : ℕ) {i k : ℕ} → i ≡ sum (take b l) → k ≡ sum l → 3 * i + 3 * get_or l b 0 ≤ 3 * k
+hole-inside l b e f = omega (arith, sum-within l b)
 
 pub hole-sum-fits : (l : List ℕ) (b : ℕ) → sum l * 3 < 2 ^ 64 → sum (take b l) < 2 ^ 64
 hole-sum-fits l b h = omega (arith, sum-front l b)

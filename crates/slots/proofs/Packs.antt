@@ -17,7 +17,6 @@ use Rattle.theorems.proofs.Contents.{valid-all, all_valid_lem, keep-from}
 use Rattle.theorems.proofs.Elder.{flat_keep, keep-length}
 use Rattle.words.specs.Words.{padded}
 use Rattle.words.proofs.Laws.{drop_past, zeroed}
-use Rattle.trace.specs.Words.{pointer}
 use Rattle.slots.specs.Slots.{Elder, Changed, between, stepped, stepped_to}
 use Rattle.slots.proofs.Flat.{flat_append, words_append, use-next, use-take, use-split, map-set}
 use Rattle.slots.proofs.Counts.{packed-rest, slots_length}
@@ -27,10 +26,10 @@ use Rattle.slots.proofs.Places.{at_slot}
 
 -- `pack_one`
 
--- `keeps`, as `trace::find` answers it
-pub keeps-is : (ps : List Ptr) (b : ℕ) → mem same_ptr (pointer 1 b 0) ps ≡ keeps ps b
-unfolding keeps whole
-keeps-is ps b = refl
+-- `keeps`, as `trace::find` answers it of the allocation's first cell
+pub keeps-found : (ps : List Ptr) (b : ℕ) {m : Ptr} → m ≡ whole 1 b → {r : Bool} → r ≡ mem same_ptr m ps → r ≡ keeps ps b
+unfolding keeps
+keeps-found ps b d e = rw (← d, e)
 
 module _ (w : List ℕ) (at b src dst : ℕ) where
   pub step-none : (t : Bool) → at ≤ length w → 3 * get_or w b 0 ≡ 0 → w ≡ stepped t at b src dst (get_or w b 0 * 3) w
@@ -40,16 +39,16 @@ module _ (w : List ℕ) (at b src dst : ℕ) where
       rw (none, ← paste-zero (drop at w) dst (drop src (drop at w))) (sym (take-append-drop at w))
   step-none false h e = let none : 0 ≡ get_or w b 0 = omega arith in rw (none, set-get_or w b 0)
 
-  pub step-keep : (ps : List Ptr) {r : Bool} → r ≡ mem same_ptr (pointer 1 b 0) ps → r ≡ true → at ≤ length w → {ys : List ℕ} → ys ≡ paste (lent at w) dst (drop src (lent at w)) (3 * get_or w b 0)
+  pub step-keep : (ps : List Ptr) {m : Ptr} → m ≡ whole 1 b → {r : Bool} → r ≡ mem same_ptr m ps → r ≡ true → at ≤ length w → {ys : List ℕ} → ys ≡ paste (lent at w) dst (drop src (lent at w)) (3 * get_or w b 0)
       → returned at w ys ≡ stepped (keeps ps b) at b src dst (get_or w b 0 * 3) w
   unfolding stepped
-  step-keep ps e q h {ys} p =
+  step-keep ps d e q h {ys} p =
       let x : 3 * get_or w b 0 ≡ get_or w b 0 * 3 = omega arith in
-      rw (← keeps-is ps b, ← e, q, returned-is w at h ys, p, lent_is w at h, x)
+      rw (← keeps-found ps b d e, q, returned-is w at h ys, p, lent_is w at h, x)
 
-  pub step-drop : (ps : List Ptr) {r : Bool} → r ≡ mem same_ptr (pointer 1 b 0) ps → r ≡ false → set w b 0 ≡ stepped (keeps ps b) at b src dst (get_or w b 0 * 3) w
+  pub step-drop : (ps : List Ptr) {m : Ptr} → m ≡ whole 1 b → {r : Bool} → r ≡ mem same_ptr m ps → r ≡ false → set w b 0 ≡ stepped (keeps ps b) at b src dst (get_or w b 0 * 3) w
   unfolding stepped
-  step-drop ps e q = rw (← keeps-is ps b, ← e, q)
+  step-drop ps d e q = rw (← keeps-found ps b d e, q)
 
   -- the move's room in the tail
 
@@ -66,13 +65,13 @@ module _ (w : List ℕ) (at b src dst : ℕ) where
   to_none true e = omega arith
   to_none false e = refl
 
-  pub to-keep : (ps : List Ptr) {r : Bool} → r ≡ mem same_ptr (pointer 1 b 0) ps → r ≡ true → dst + 3 * get_or w b 0 ≡ stepped_to (keeps ps b) dst (get_or w b 0 * 3)
+  pub to-keep : (ps : List Ptr) {m : Ptr} → m ≡ whole 1 b → {r : Bool} → r ≡ mem same_ptr m ps → r ≡ true → dst + 3 * get_or w b 0 ≡ stepped_to (keeps ps b) dst (get_or w b 0 * 3)
   unfolding stepped_to
-  to-keep ps e q = rw (← keeps-is ps b, ← e, q) (omega arith)
+  to-keep ps d e q = rw (← keeps-found ps b d e, q) (omega arith)
 
-  pub to_drop : (ps : List Ptr) {r : Bool} → r ≡ mem same_ptr (pointer 1 b 0) ps → r ≡ false → dst ≡ stepped_to (keeps ps b) dst (get_or w b 0 * 3)
+  pub to_drop : (ps : List Ptr) {m : Ptr} → m ≡ whole 1 b → {r : Bool} → r ≡ mem same_ptr m ps → r ≡ false → dst ≡ stepped_to (keeps ps b) dst (get_or w b 0 * 3)
   unfolding stepped_to
-  to_drop ps e q = rw (← keeps-is ps b, ← e, q)
+  to_drop ps d e q = rw (← keeps-found ps b d e, q)
 
 -- `keep`, one slot more
 

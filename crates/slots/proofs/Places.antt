@@ -93,9 +93,6 @@ module _ {s at : ℕ} {w : List ℕ} {ss : List (List Cell)} (v : Elder s at w s
     bs : b < length ss
     bs = omega (arith, slots_length v)
 
-    pub place_in : i + j ≤ k
-    place_in = omega (arith, fi, fj, fk, use-split ss b bs)
-
     module _ (len : ℕ) (r : (in_use (set ss b []) + len) * 3 ≤ length w - at) where
       place-room : (new : ℕ) → new ≡ len * 3 → k - j + new ≤ length (lent at w)
       place-room new e = omega (arith, fi, fj, fk, use-split ss b bs, use-put ss b bs [], lent_length w at v.inside)
@@ -139,4 +136,4 @@ module _ {s at : ℕ} {w : List ℕ} (v : Elder s at w (slots_at s at w)) (b i j
   source-placed q e =
       rw q (place-done v b i j k ei ej ek h (count_of src) r (cells_from src) (source-valid src) (source-count src) (rw (source-words src) at e))
 
-pub ruleset placed = (place_in, place-used, source-room, place-zeros, source-placed)
+pub ruleset placed = (place-used, source-room, place-zeros, source-placed)

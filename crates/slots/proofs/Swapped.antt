@@ -51,9 +51,6 @@ module _ {s at : ℕ} {w : List ℕ} {ss : List (List Cell)} (v : Elder s at w s
   unfolding padded
   part-is = rw v.packed.cells (take_at (cell_words (flat ss)) _ (at + 3 * used - at) part_length)
 
-  pub part_count : length part ≡ used * 3
-  part_count = rw part-is (omega (arith, part_length))
-
   pub part-whole : whole_cells part ≡ true
   part-whole = rw part-is (whole_words (flat ss) v.packed.valid)
 
@@ -77,4 +74,4 @@ module _ {s at : ℕ} {w : List ℕ} {ss : List (List Cell)} (v : Elder s at w s
         let valid : all_valid (flat rs) ≡ true = rw (flat_map (swap_cell m) ss) (valid-all _ (valid-swap m (flat ss) (all_valid_lem (flat ss) v.packed.valid))) in
         changed w v.order v.inside refl rs (v.packed.lens ∙ sym (lengths-same (swap_cell m) ss)) (length (drop at w)) (omega (arith, v.packed.fits)) valid (ys ++ drop k (drop at w)) words
 
-pub ruleset swapped = (end-fits-3, end_fits, end-inside, part_count, part-whole, swap-count, swap-made)
+pub ruleset swapped = (end-fits-3, end_fits, end-inside, part-whole, swap-count, swap-made)

@@ -1,32 +1,49 @@
 -- Cells that hold a pointer are changed.
 use mathlib.Core.Path.{◌≡◌, refl, sym, ap, ◌∙◌}
-use mathlib.Core.Bool.{Bool, true, false, false≢true}
+use mathlib.Core.Bool.{Bool, true, false, not, ◌&&◌, false≢true}
 use mathlib.Core.Logic.{⊎_elim}
 use mathlib.Core.List.Memᴰ
 use mathlib.Core.List.{List, [], ◌∷◌, ◌++◌, map, append-nil}
-use Prim.Native.Nat.{ℕ, zero, suc, ◌+◌, ◌*◌, ◌≤◌, ◌<◌}
+use Prim.Native.Nat.{ℕ, zero, suc, ◌+◌, ◌*◌, ◌/◌, ◌≤◌, ◌<◌}
 use native.Mathlib.Numerals.{add-one}
 use native.Mathlib.Nat.{not-suc-le-zero, le_of_suc-le-suc}
 use native.Mathlib.Omega.{arith}
+use borrow.Author.Tests.{eqb-true}
+use mir.Syntax.{w64}
+use mir.Val.{Fits, to_z}
+use mir.ValLaws.{of_z-to_z}
+use lib.Dec.{eqb}
+use lib.IntN.{ℤ}
 use lib.ListN.{length, get_or, set, take, drop}
-use lib.Seq.{set-get_or, take-length, drop-length}
+use lib.Seq.{paste, set-get_or, take-length, drop-length}
 use Rattle.model.specs.Lists.{cons_if, keep_if}
 use Rattle.model.specs.Records.{Ptr, Cell, plain, ref, blank, cell_words, valid, all_valid, whole_cells, whole}
 use Rattle.model.specs.Collector.{moved_to, holds, swap_cell}
 use Rattle.model.specs.Calls.{cells_in}
 use Rattle.theorems.proofs.Barrier.{bit}
-use Rattle.theorems.proofs.Cells.{kind_word, payload_word, offset_word, plain-kind, whole_words, words-in, whole_back, whole-valid, whole_length}
+use Rattle.theorems.proofs.Cells.{kind_word, payload_word, offset_word, plain-kind, whole_words, words-in, whole_back, whole-valid, whole_length, cell-pasted}
 use Rattle.theorems.proofs.Contents.{valid-all, all_valid_lem, valid-swap}
-use Rattle.theorems.proofs.Lists.{take_in, drop-in}
+use Rattle.theorems.proofs.Lists.{and_parts, eqb_same, take_in, drop-in}
 use Rattle.theorems.proofs.Members.{same_ptr-eq, same_ptr-refl}
+use Rattle.value.specs.Value.{value_cell, words_at}
+use Rattle.value.specs.declared.Value.TheVariants.{Pointer as PointerV}
+use Rattle.value.specs.declared.Words.{Words}
 use Rattle.trace.specs.Words.{pointer}
-use Rattle.slots.proofs.Flat.{valid-at, kind_at, payload-at, offset_at, put-cell}
+use Rattle.trace.proofs.Places.{in-length}
+use Rattle.slots.specs.Slots.{move_of}
+use Rattle.slots.specs.declared.Move.{Move}
+use Rattle.slots.proofs.Flat.{valid-at, kind_at, payload-at, offset_at}
+
+-- `Move::was`: x is the offset's i64
+pub was-cell : (m : Move) (x : ℤ) → Fits w64 m.offset → x ≡ to_z w64 m.offset → value_cell (PointerV (record { heap = m.heap; base = m.base; offset = x })) ≡ ref (move_of m).0
+unfolding value_cell
+was-cell m x s is = rw is (λ i. ref (record { heap = m.heap; base = m.base; off = of_z-to_z w64 m.offset s i }))
 
 false_of : (t : Bool) → (t ≡ true → ⊥) → t ≡ false
 false_of true h = absurd (h refl)
 false_of false h = refl
 
-holds-is : (p : Ptr) (c : Cell) → holds p c ≡ true → c ≡ ref p
+pub holds-is : (p : Ptr) (c : Cell) → holds p c ≡ true → c ≡ ref p
 unfolding holds
 holds-is p (plain k v) e = absurd (false≢true e)
 holds-is p (ref q) e = ap ref (sym (same_ptr-eq p q e))
@@ -51,10 +68,24 @@ swap-yes m c e = rw (e, swap_cell)
 abbrev SwappedAt : Ptr × ℕ → ℕ → List Cell → List ℕ → Bool → Type 0
 SwappedAt m i cs v r = (v ≡ cell_words (set cs i (swap_cell m (get_or cs i blank)))) × (r ≡ holds m.0 (get_or cs i blank))
 
-module _ (h b o n i : ℕ) (w : List ℕ) (u : whole_cells w ≡ true) (l : i * 3 + 2 < length w) where
-  abbrev p : Ptr
-  p = pointer h b o
+-- the comparison of words
 
+abbrev same : Words → Words → Bool
+same a x = eqb a.tag x.tag && (eqb a.payload x.payload && eqb a.offset x.offset)
+
+abbrev Equal : Words → Words → Type 0
+Equal a x = (a.tag ≡ x.tag) × (a.payload ≡ x.payload) × (a.offset ≡ x.offset)
+
+equal-same : (a x : Words) → Equal a x → same a x ≡ true
+equal-same a x (d, e, f) = rw (d, e, f, eqb_same x.tag, eqb_same x.payload, eqb_same x.offset)
+
+same-equal : (a x : Words) → same a x ≡ true → Equal a x
+same-equal a x e =
+    let (d, r) = and_parts (eqb a.tag x.tag) (eqb a.payload x.payload && eqb a.offset x.offset) e in
+    let (f, g) = and_parts (eqb a.payload x.payload) (eqb a.offset x.offset) r in
+    (eqb-true _ _ d, eqb-true _ _ f, eqb-true _ _ g)
+
+module _ (m : Ptr × ℕ) (i : ℕ) (w : List ℕ) (u : whole_cells w ≡ true) (l : i * 3 + 2 < length w) where
   abbrev cs : List Cell
   cs = cells_in w
 
@@ -68,29 +99,46 @@ module _ (h b o n i : ℕ) (w : List ℕ) (u : whole_cells w ≡ true) (l : i * 
   w-is : w ≡ cell_words cs ++ []
   w-is = sym (whole_back w u) ∙ sym (append-nil (cell_words cs))
 
-  missed : (c ≡ ref p → ⊥) → SwappedAt (p, n) i cs w false
-  missed f =
-      let q : holds p c ≡ false = false_of (holds p c) (λ t. f (holds-is p c t)) in
-      (rw (swap-no (p, n) c q, set-get_or cs i blank) (sym (whole_back w u)), sym q)
+  -- a is the i-th's words, and x the pointer's
+  module _ (a x : Words) (read : a ≡ words_at w (3 * i)) {v : Cell} (was : v ≡ ref m.0) (made : (x.tag ∷ x.payload ∷ x.offset ∷ []) ≡ cell_words (v ∷ [])) {t : Bool} (told : t ≡ not (same a x)) where
+    x-is : Equal x (record { tag = m.0.heap * 256 + 5; payload = m.0.base; offset = m.0.off })
+    unfolding cell_words
+    x-is =
+        let e : (x.tag ∷ x.payload ∷ x.offset ∷ []) ≡ cell_words (ref m.0 ∷ []) = made ∙ ap (λ (d : Cell). cell_words (d ∷ [])) was in
+        (ap (λ (k : List ℕ). get_or k 0 0) e, ap (λ (k : List ℕ). get_or k 1 0) e, ap (λ (k : List ℕ). get_or k 2 0) e)
 
-  pub swap-kind : (get_or w (3 * i) 0 ≡ 5 + 256 * h → ⊥) → SwappedAt (p, n) i cs w false
-  swap-kind d = missed (λ t. d (kind_at cs [] w-is i inside ∙ ap kind_word t ∙ omega arith))
+    a-is : Equal a (record { tag = kind_word c; payload = payload_word c; offset = offset_word c })
+    a-is = (ap (λ (r : Words). r.tag) read ∙ kind_at cs [] w-is i inside, ap (λ (r : Words). r.payload) read ∙ payload-at cs [] w-is i inside, ap (λ (r : Words). r.offset) read ∙ offset_at cs [] w-is i inside)
 
-  pub swap-payload : (get_or w (3 * i + 1) 0 ≡ b → ⊥) → SwappedAt (p, n) i cs w false
-  swap-payload d = missed (λ t. d (payload-at cs [] w-is i inside ∙ ap payload_word t))
+    pub swap-miss : t ≡ true → SwappedAt m i cs w false
+    swap-miss q =
+        let other : c ≡ ref m.0 → ⊥ =
+        λ is.
+        let e : same a x ≡ true =
+        equal-same a x (a-is.0 ∙ ap kind_word is ∙ sym x-is.0, a-is.1 ∙ ap payload_word is ∙ sym x-is.1, a-is.2 ∙ ap offset_word is ∙ sym x-is.2) in
+        false≢true (sym (told ∙ ap not e) ∙ q) in
+        let none : holds m.0 c ≡ false = false_of (holds m.0 c) (λ h. other (holds-is m.0 c h)) in
+        (rw (swap-no m c none, set-get_or cs i blank) (sym (whole_back w u)), sym none)
 
-  pub swap-offset : (get_or w (3 * i + 2) 0 ≡ o → ⊥) → SwappedAt (p, n) i cs w false
-  swap-offset d = missed (λ t. d (offset_at cs [] w-is i inside ∙ ap offset_word t))
-
-  pub swap-hit : get_or w (3 * i) 0 ≡ 5 + 256 * h → get_or w (3 * i + 1) 0 ≡ b → get_or w (3 * i + 2) 0 ≡ o → SwappedAt (p, n) i cs (set (set (set w (3 * i) 261) (3 * i + 1) n) (3 * i + 2) 0) true
-  unfolding moved_to whole valid holds
-  swap-hit x y z =
-      let k : kind_word c ≡ h * 256 + 5 = sym (kind_at cs [] w-is i inside) ∙ x ∙ omega arith in
-      let q : c ≡ ref p = is-ref p c (valid-at cs i inside (whole-valid w u)) k (sym (payload-at cs [] w-is i inside) ∙ y) (sym (offset_at cs [] w-is i inside) ∙ z) in
-      let t : holds p c ≡ true = rw q (same_ptr-refl p) in
-      let stored : set (set (set w (3 * i) 261) (3 * i + 1) n) (3 * i + 2) 0 ≡ cell_words (set cs i (ref (moved_to (p, n)))) =
-      ap (λ (a : List ℕ). set (set (set a (3 * i) 261) (3 * i + 1) n) (3 * i + 2) 0) (sym (whole_back w u)) ∙ put-cell cs i (ref (moved_to (p, n))) inside in
-      (rw (swap-yes (p, n) c t) stored, sym t)
+    -- y is the words of what it becomes, ys what they are written into
+    pub swap-hit : t ≡ false → (y : Words) {n : Cell} → n ≡ ref (moved_to m) → (y.tag ∷ y.payload ∷ y.offset ∷ []) ≡ cell_words (n ∷ []) → (z : List ℕ) → z ≡ y.tag ∷ y.payload ∷ y.offset ∷ [] → {ys : List ℕ} → ys ≡ paste w (3 * i) z (length z) → SwappedAt m i cs ys true
+    unfolding holds
+    swap-hit q y {n} now put z zs {ys} e =
+        let (d, f, g) = same-equal a x (yes (same a x) (sym told ∙ q)) in
+        let is : c ≡ ref m.0 = is-ref m.0 c (valid-at cs i inside (whole-valid w u)) (sym a-is.0 ∙ d ∙ x-is.0) (sym a-is.1 ∙ f ∙ x-is.1) (sym a-is.2 ∙ g ∙ x-is.2) in
+        let held : holds m.0 c ≡ true = rw is (same_ptr-refl m.0) in
+        let words : z ≡ cell_words (ref (moved_to m) ∷ []) = zs ∙ put ∙ ap (λ (k : Cell). cell_words (k ∷ [])) now in
+        let three : length z ≡ 3 = ap length zs in
+        let stored : ys ≡ cell_words (set cs i (ref (moved_to m))) =
+        e
+        ∙ (λ j. paste (w-is j) (3 * i) (words j) (three j))
+        ∙ cell-pasted cs [] i (ref (moved_to m)) inside
+        ∙ append-nil (cell_words (set cs i (ref (moved_to m)))) in
+        (rw (swap-yes m c held) stored, sym held)
+      where
+        yes : (b : Bool) → not b ≡ false → b ≡ true
+        yes true h = refl
+        yes false h = absurd (false≢true (sym h))
 
 -- `swap_cells`: i cells are changed
 
@@ -132,20 +180,20 @@ hits_next f (c ∷ cs) (suc i) h = go (f c) (hits_next f cs i (le_of_suc-le-suc 
     go true e = omega arith
     go false e = e
 
-pub record Swapping (m : Ptr × ℕ) (n : ℕ) (w₀ w : List ℕ) (hits i : ℕ) : Type 0 where
-  pub within : i ≤ n
+pub record Swapping (m : Ptr × ℕ) (w₀ w : List ℕ) (hits i : ℕ) : Type 0 where
+  pub within : i ≤ length w₀ / 3
   pub few : hits ≤ i
-  pub len : length w ≡ n * 3
-  pub size : length (cells_in w₀) ≡ n
+  pub len : length w ≡ length (cells_in w₀) * 3
+  pub size : length (cells_in w₀) ≡ length w₀ / 3
   pub good : all_valid (cells_in w₀) ≡ true
   pub is : w ≡ cell_words (front (swap_cell m) i (cells_in w₀))
   pub count : hits ≡ length (keep_if (holds m.0) (take i (cells_in w₀)))
 
-pub swap-begin : (m : Ptr × ℕ) (n : ℕ) (w : List ℕ) → length w ≡ n * 3 → whole_cells w ≡ true → Swapping m n w w 0 0
+pub swap-begin : (m : Ptr × ℕ) (w : List ℕ) → whole_cells w ≡ true → Swapping m w w 0 0
 unfolding front keep_if
-swap-begin m n w l u = record { within = omega arith; few = omega arith; len = l; size = omega (arith, whole_length w u); good = whole-valid w u; is = sym (whole_back w u); count = refl }
+swap-begin m w u = record { within = omega arith; few = omega arith; len = sym (whole_length w u); size = in-length w; good = whole-valid w u; is = sym (whole_back w u); count = refl }
 
-module _ {m : Ptr × ℕ} {n : ℕ} {w₀ w : List ℕ} {hits i : ℕ} (x : Swapping m n w₀ w hits i) where
+module _ {m : Ptr × ℕ} {w₀ w : List ℕ} {hits i : ℕ} (x : Swapping m w₀ w hits i) where
   abbrev before : List Cell
   before = cells_in w₀
 
@@ -160,10 +208,10 @@ module _ {m : Ptr × ℕ} {n : ℕ} {w₀ w : List ℕ} {hits i : ℕ} (x : Swap
   cells_are : cells_in w ≡ front (swap_cell m) i before
   cells_are = rw x.is (words-in (front (swap_cell m) i before) still-valid)
 
-  pub swap-room : i < n → i * 3 + 2 < length w
-  swap-room h = omega (arith, x.len)
+  pub swap-room : i < length w₀ / 3 → i * 3 + 2 < length w
+  swap-room h = omega (arith, x.len, x.size)
 
-  swap-turn : {w' : List ℕ} (r : Bool) {hits' : ℕ} → i < n → length w' ≡ length w → SwappedAt m i (cells_in w) w' r → hits' ≡ hits + bit r → Swapping m n w₀ w' hits' (i + 1)
+  swap-turn : {w' : List ℕ} (r : Bool) {hits' : ℕ} → i < length w₀ / 3 → length w' ≡ length w → SwappedAt m i (cells_in w) w' r → hits' ≡ hits + bit r → Swapping m w₀ w' hits' (i + 1)
   swap-turn {w'} r {hits'} h l s e =
       let below : i < length before = omega (arith, x.size) in
       let (p, c) : SwappedAt m i (front (swap_cell m) i before) w' r = rw cells_are at s in
@@ -182,13 +230,13 @@ module _ {m : Ptr × ℕ} {n : ℕ} {w₀ w : List ℕ} {hits i : ℕ} (x : Swap
       go true h e = omega arith
       go false h e = omega arith
 
-  pub swap-found : {w' : List ℕ} {r : Bool} {hits' : ℕ} → i < n → length w' ≡ length w → SwappedAt m i (cells_in w) w' r → r ≡ true → hits' ≡ hits + 1 → Swapping m n w₀ w' hits' (i + 1)
+  pub swap-found : {w' : List ℕ} {r : Bool} {hits' : ℕ} → i < length w₀ / 3 → length w' ≡ length w → SwappedAt m i (cells_in w) w' r → r ≡ true → hits' ≡ hits + 1 → Swapping m w₀ w' hits' (i + 1)
   swap-found {r = r} h l s t e = swap-turn r h l s (rw t e)
 
-  pub swap-missed : {w' : List ℕ} {r : Bool} {hits' : ℕ} → i < n → length w' ≡ length w → SwappedAt m i (cells_in w) w' r → r ≡ false → hits' ≡ hits → Swapping m n w₀ w' hits' (i + 1)
+  pub swap-missed : {w' : List ℕ} {r : Bool} {hits' : ℕ} → i < length w₀ / 3 → length w' ≡ length w → SwappedAt m i (cells_in w) w' r → r ≡ false → hits' ≡ hits → Swapping m w₀ w' hits' (i + 1)
   swap-missed {r = r} h l s t e = swap-turn r h l s (rw t (omega arith))
 
-  pub swap-done : n ≤ i → (w ≡ cell_words (map (swap_cell m) before)) × (hits ≡ length (keep_if (holds m.0) before))
+  pub swap-done : length w₀ / 3 ≤ i → (w ≡ cell_words (map (swap_cell m) before)) × (hits ≡ length (keep_if (holds m.0) before))
   unfolding front
   swap-done h =
       let q : i ≡ length before = omega (arith, x.within, x.size) in

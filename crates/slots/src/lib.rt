@@ -7,30 +7,24 @@
 
 ghost use Rattle.std.specs.Prelude.{◌≡◌, true, [], map, ◌+◌, ◌-◌, ◌*◌, ◌^◌, ◌≤◌, ◌<◌, length, get_or, take, set, replicate};
 ghost use Rattle.model.specs.Lists.{keep_if, flat, places, sum};
-ghost use Rattle.model.specs.Records.{blank, cell_words, whole_cells};
+ghost use Rattle.model.specs.Records.{ref, blank, cell_words, whole_cells};
 ghost use Rattle.model.specs.Heap.{in_use};
 ghost use Rattle.model.specs.Elder.{keeps, keep};
-ghost use Rattle.model.specs.Collector.{holds, swap_cell};
+ghost use Rattle.model.specs.Collector.{moved_to, holds, swap_cell};
 ghost use Rattle.model.specs.Calls.{cells_in};
 ghost use Rattle.trace.specs.Words.{listed};
+ghost use Rattle.value.specs.Value.{value_cell};
 ghost use Rattle.words.specs.Source.{cells_from, count_of};
 ghost use Rattle.slots.specs.Slots.{Packed, slots_of, slots_at, Elder, Changed, read_old, ReadBy, written, stepped, stepped_to, move_of};
 
 use trace::Member;
-use value::Words;
-use words::Source;
+use value::{Pointer, Value, Words};
+use words::{Hole, Source};
 
 // ---- Lengths
 
-// The number of cells in use.
-pub fn in_use(lens: &[u64]) -> usize
-    requires { sum lens.now < 2 ^ 64 }
-    ensures { result ≡ sum lens.now }
-{
-    words::sum_first(lens, lens.len())
-}
-
 // The number of allocations.
+#[tactic(auto, using(crate::proofs::Counts::counts))]
 pub fn held(lens: &[u64]) -> usize
     ensures { result ≡ length (places 0 lens.now) }
 {
@@ -52,25 +46,22 @@ pub fn read_old(lens: &[u64], cells: &[u64], base: u64, offset: u64) -> Option<W
     ensures { ReadBy (read_old (slots_of lens.now cells.now) base offset) result }
 {
     let b = base as usize;
-    let o = offset as usize;
-    if lens.len() <= b {
+    if *lens.get(b)? <= offset {
         return None;
     }
-    let n = lens[b] as usize;
-    if n <= o {
-        return None;
-    }
-    Some(Words::at(cells, words::sum_first(lens, b) + o))
+    Some(Words::at(cells, words::sum(&lens[..b]) + offset as usize))
 }
 
 // The three words of cell take the place of the cell at (b, o).
+#[tactic(auto, using(crate::proofs::Writes::writes, crate::proofs::Counts::counts))]
 pub fn write_old(w: &mut [u64], s: usize, at: usize, b: usize, o: usize, cell: &[u64])
     requires elder { Elder s at w.old (slots_at s at w.old) }
     requires o_in_bounds { o < length (get_or (slots_at s at w.old) b []) }
     requires cell_len { (length cell.now ≡ 3) × (whole_cells cell.now ≡ true) }
     ensures { Changed s at w.old w.new (written b o cell.now (slots_at s at w.old)) }
 {
-    let i = words::sum_first(&w[..s], b) + o;
+    let lens = &w[..s];
+    let i = words::sum(&lens[..b]) + o;
     words::copy_words(&mut w[at..], 3 * i, cell);
 }
 
@@ -85,33 +76,54 @@ pub struct Move {
     pub new: u64,
 }
 
+impl Move {
+    // What a cell holds that is the pointer, before and after.
+    pub fn was(self) -> Value
+        ensures { value_cell result ≡ ref (move_of self).0 }
+    {
+        Value::Pointer(Pointer {
+            heap: self.heap,
+            base: self.base,
+            offset: self.offset.cast_signed(),
+        })
+    }
+
+    #[tactic(auto, unfolding(model::specs::Collector::moved_to, model::specs::Records::whole, value::specs::Value::value_cell))]
+    pub fn becomes(self) -> Value
+        ensures { value_cell result ≡ ref (moved_to (move_of self)) }
+    {
+        Value::Pointer(Pointer {
+            heap: 1,
+            base: self.new,
+            offset: 0,
+        })
+    }
+}
+
 // The i-th cell becomes (1, new, 0) if it is the pointer. Answers whether it was. A heap above 1 stands in no valid cell.
 pub fn swap_at(cells: &mut [u64], i: usize, moved: Move) -> bool
     requires { (i * 3 + 2 < length cells.old) × (whole_cells cells.old ≡ true) }
     ensures cells_after { cells.new ≡ cell_words (set (cells_in cells.old) i (swap_cell (move_of moved) (get_or (cells_in cells.old) i blank))) }
     ensures value { result ≡ holds (move_of moved).0 (get_or (cells_in cells.old) i blank) }
 {
-    let at = 3 * i;
-    if cells[at] != value::POINTER + value::HEAP_STEP * moved.heap as u64
-        || cells[at + 1] != moved.base
-        || cells[at + 2] != moved.offset
-    {
+    if Words::at(cells, i) != Words::from(moved.was()) {
         return false;
     }
-    cells[at] = value::ELDER;
-    cells[at + 1] = moved.new;
-    cells[at + 2] = 0;
+    let words: [u64; 3] = Words::from(moved.becomes()).into();
+    words::copy_words(cells, 3 * i, &words);
     true
 }
 
-// The same of all n cells. Answers how many there were: each counts in a barrier.
-pub fn swap_cells(cells: &mut [u64], n: usize, moved: Move) -> usize
-    requires { (length cells.old ≡ n * 3) × (whole_cells cells.old ≡ true) }
+// The same of all cells. Answers how many there were: each counts in a barrier.
+#[tactic(auto, using(crate::proofs::Swaps::swaps))]
+pub fn swap_cells(cells: &mut [u64], moved: Move) -> usize
+    requires { whole_cells cells.old ≡ true }
     ensures cells_after { cells.new ≡ cell_words (map (swap_cell (move_of moved)) (cells_in cells.old)) }
     ensures value { result ≡ length (keep_if (holds (move_of moved).0) (cells_in cells.old)) }
 {
     let mut hits: usize = 0;
-    for i in 0..n {
+    // By index: nothing is known of the words once what `as_chunks_mut` lends of them has ended.
+    for i in 0..cells.len() / 3 {
         if swap_at(cells, i, moved) {
             hits += 1;
         }
@@ -120,33 +132,27 @@ pub fn swap_cells(cells: &mut [u64], n: usize, moved: Move) -> usize
 }
 
 // The same of every cell of the elder.
+#[tactic(auto, using(crate::proofs::Swapped::swapped, crate::proofs::Counts::counts))]
 pub fn swap_old(w: &mut [u64], s: usize, at: usize, moved: Move) -> usize
     requires { Elder s at w.old (slots_at s at w.old) }
     ensures changed { Changed s at w.old w.new (map (map (swap_cell (move_of moved))) (slots_at s at w.old)) }
     ensures value { result ≡ length (keep_if (holds (move_of moved).0) (flat (slots_at s at w.old))) }
 {
-    let used = in_use(&w[..s]);
-    let end = at + 3 * used;
-    swap_cells(&mut w[at..end], used, moved)
+    let end = at + 3 * words::sum(&w[..s]);
+    swap_cells(&mut w[at..end], moved)
 }
 
 // ---- Cells are placed
 
-// An allocation's words: where they start, how many they are, and how many are in use in all.
-#[derive(Clone, Copy)]
-struct Hole {
-    at: usize,
-    old: usize,
-    used: usize,
-}
-
+// The words of the allocation at b.
+#[tactic(auto, using(crate::proofs::Counts::counts))]
 fn hole_of(lens: &[u64], b: usize) -> Hole
     requires { (b < length lens.now) × (sum lens.now * 3 < 2 ^ 64) }
     ensures { (result.at ≡ sum (take b lens.now) * 3) × (result.old ≡ get_or lens.now b 0 * 3) × (result.used ≡ sum lens.now * 3) }
 {
-    let at = words::sum_first(lens, b);
+    let at = words::sum(&lens[..b]);
     let old = lens[b] as usize;
-    let used = in_use(lens);
+    let used = words::sum(lens);
     Hole {
         at: 3 * at,
         old: 3 * old,
@@ -155,14 +161,15 @@ fn hole_of(lens: &[u64], b: usize) -> Hole
 }
 
 // These cells at base b. An allocation that is there is replaced, and its room used again.
+#[tactic(auto, using(crate::proofs::Places::placed, crate::proofs::Counts::counts))]
 pub fn place(w: &mut [u64], s: usize, at: usize, b: usize, src: Source<'_>)
     requires elder { Elder s at w.old (slots_at s at w.old) }
     requires b_lt_s { b < s }
     requires src_in_bounds { (in_use (set (slots_at s at w.old) b []) + count_of src) * 3 ≤ length w.old - at }
     ensures { Changed s at w.old w.new (set (slots_at s at w.old) b (cells_from src.entry)) }
 {
-    let h = hole_of(&w[..s], b);
-    words::splice(&mut w[at..], h.at, h.old, h.used, src);
+    let hole = hole_of(&w[..s], b);
+    words::splice(&mut w[at..], hole, src);
     w[b] = src.count() as u64;
 }
 
@@ -176,6 +183,7 @@ struct Ends {
 }
 
 // Keeps or drops the allocation at b. A base without one costs no search.
+#[tactic(auto, using(crate::proofs::Packs::packs))]
 fn pack_one(w: &mut [u64], at: usize, b: usize, ends: Ends, members: &[u64]) -> Ends
     requires b_lt_at { (b < at) × (at ≤ length w.old) }
     requires dst_le_src { (ends.dst ≤ ends.src) × (ends.src + get_or w.old b 0 * 3 ≤ length w.old - at) }
@@ -188,12 +196,7 @@ fn pack_one(w: &mut [u64], at: usize, b: usize, ends: Ends, members: &[u64]) -> 
     if n == 0 {
         return ends;
     }
-    let m = Member {
-        base: b as u64,
-        offset: 0,
-        heap: 1,
-    };
-    if trace::find(members, m) {
+    if trace::find(members, Member::start(1, b as u64)) {
         words::move_words(&mut w[at..], dst, src, n);
         return Ends {
             src: src + n,
@@ -205,11 +208,13 @@ fn pack_one(w: &mut [u64], at: usize, b: usize, ends: Ends, members: &[u64]) -> 
 }
 
 // Keeps the allocations whose pointers are among the members, packed.
+#[tactic(auto, using(crate::proofs::Packs::packs))]
 pub fn pack(w: &mut [u64], s: usize, at: usize, members: &[u64])
     requires { Elder s at w.old (slots_at s at w.old) }
     ensures { Changed s at w.old w.new (keep (listed members.now) 0 (slots_at s at w.old)) }
 {
     let mut ends = Ends { src: 0, dst: 0 };
+    // By index: the lengths are written, and the cells stand in the same words.
     for b in 0..s {
         ends = pack_one(w, at, b, ends, members);
     }

@@ -215,7 +215,7 @@ impl Generation<'_> {
         if self.own == 0 {
             return b;
         }
-        words::sum_first(self.lens, b)
+        words::sum(&self.lens[..b])
     }
 
     // Visits entry p, whichever its heap: enters what the allocation at its base leads to, if there is one.

@@ -81,7 +81,7 @@ impl Value {
     }
 }
 
-#[derive(Clone, Copy)]
+#[derive(Clone, Copy, PartialEq, Eq)]
 pub struct Words {
     pub tag: u64,
     pub payload: u64,

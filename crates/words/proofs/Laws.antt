@@ -112,4 +112,4 @@ module _ (at old used : ℕ) (w : List ℕ) (src : Source) (h : (at + old ≤ us
   pub spliced-given : (s : Cells) → src ≡ Given s → u ≡ paste v at s.words.now (length s.words.now) → u ≡ padded (take at w ++ (filling src ++ rest_of (at + old) used w)) (length w)
   spliced-given s f q = replaced-by s.words.now (ap filling f) (q ∙ ap (paste v at s.words.now) (sym (e ∙ ap (λ (r : Source). length (filling r)) f)))
 
-pub ruleset laws = (opened, spliced-blank, spliced-given)
+pub ruleset laws = (zeros-filled, opened, spliced-blank, spliced-given)

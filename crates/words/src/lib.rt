@@ -37,6 +37,7 @@ pub fn zero_words(w: &mut [u64], at: usize, n: usize)
 }
 
 // Makes every word from at on 0.
+#[tactic(auto, using(crate::proofs::Laws::laws))]
 pub fn zero_from(w: &mut [u64], at: usize)
     requires { at ≤ length w.old }
     ensures { w.new ≡ padded (take at w.old) (length w.old) }
@@ -44,19 +45,30 @@ pub fn zero_from(w: &mut [u64], at: usize)
     w[at..].fill(0);
 }
 
-// Makes place for new words at `at` in the stead of old ones. The first used words are in use, the rest is 0 before and after:
-// only words that were in use are zeroed, so that the cost doesn't grow with the slice.
-fn open_place(w: &mut [u64], at: usize, old: usize, used: usize, new: usize)
-    requires bound { (at + old ≤ used) × (used ≤ length w.old) × (used - old + new ≤ length w.old) }
-    requires w_value { drop used w.old ≡ replicate (length w.old - used) 0 }
-    ensures { w.new ≡ padded (take (at + new) w.old ++ take (used - (at + old)) (drop (at + old) w.old)) (length w.old) }
+// Words in use in the front of a slice, and among them old ones, which are to be replaced: where those stand, how many they are, and
+// how many are in use in all. What lies behind is 0.
+#[derive(Clone, Copy)]
+pub struct Hole {
+    pub at: usize,
+    pub old: usize,
+    pub used: usize,
+    ghost inside: { at + old ≤ used },
+}
+
+// Makes place for new words in the stead of the old ones. Only words that were in use are zeroed, so that the cost doesn't grow with
+// the slice.
+#[tactic(auto, using(crate::proofs::Laws::laws))]
+fn open_place(w: &mut [u64], hole: Hole, new: usize)
+    requires bound { (hole.used ≤ length w.old) × (hole.used - hole.old + new ≤ length w.old) }
+    requires w_value { drop hole.used w.old ≡ replicate (length w.old - hole.used) 0 }
+    ensures { w.new ≡ padded (take (hole.at + new) w.old ++ take (hole.used - (hole.at + hole.old)) (drop (hole.at + hole.old) w.old)) (length w.old) }
 {
-    let behind = at + old;
-    let after = at + new;
-    let rest = used - behind;
+    let behind = hole.at + hole.old;
+    let after = hole.at + new;
+    let rest = hole.used - behind;
     move_words(w, after, behind, rest);
     let end = after + rest;
-    zero_words(w, end, used.saturating_sub(end));
+    zero_words(w, end, hole.used.saturating_sub(end));
 }
 
 // Cells that come to a place: so many Uninitialized ones, whose words are 0, or these.
@@ -89,24 +101,25 @@ impl Source<'_> {
     }
 }
 
-// Of the first used words the old ones from at on are replaced by src's. The rest is 0.
-pub fn splice(w: &mut [u64], at: usize, old: usize, used: usize, src: Source<'_>)
-    requires bound { (at + old ≤ used) × (used ≤ length w.old) × (used - old + length (filling src) ≤ length w.old) }
-    requires w_value { drop used w.old ≡ replicate (length w.old - used) 0 }
-    ensures { w.new ≡ padded (take at w.old ++ (filling src.entry ++ take (used - (at + old)) (drop (at + old) w.old))) (length w.old) }
+// The old words are replaced by src's.
+#[tactic(auto, using(crate::proofs::Laws::laws))]
+pub fn splice(w: &mut [u64], hole: Hole, src: Source<'_>)
+    requires bound { (hole.used ≤ length w.old) × (hole.used - hole.old + length (filling src) ≤ length w.old) }
+    requires w_value { drop hole.used w.old ≡ replicate (length w.old - hole.used) 0 }
+    ensures { w.new ≡ padded (take hole.at w.old ++ (filling src.entry ++ take (hole.used - (hole.at + hole.old)) (drop (hole.at + hole.old) w.old))) (length w.old) }
 {
     let new = src.len();
-    open_place(w, at, old, used, new);
+    open_place(w, hole, new);
     match src {
-        Source::Blank(_) => zero_words(w, at, new),
-        Source::Given(cells) => copy_words(w, at, cells.words),
+        Source::Blank(_) => zero_words(w, hole.at, new),
+        Source::Given(cells) => copy_words(w, hole.at, cells.words),
     }
 }
 
-// The sum of the first n words. Every access to the elder runs this loop: it only adds, so that it can be done many at a time.
-pub fn sum_first(w: &[u64], n: usize) -> usize
-    requires { (n ≤ length w.now) × (sum (take n w.now) < 2 ^ 64) }
-    ensures { result ≡ sum (take n w.now) }
+// The sum of words. Every access to the elder runs this loop: it only adds, so that it can be done many at a time.
+pub fn sum(w: &[u64]) -> usize
+    requires { sum w.now < 2 ^ 64 }
+    ensures { result ≡ sum w.now }
 {
-    w[..n].iter().sum::<u64>() as usize
+    w.iter().sum::<u64>() as usize
 }

@@ -5,8 +5,7 @@ use Rattle.changes.proofs.count_changes.Goals as goal
 
 pub returns-in_err-barrier : goal.returns-in_err-barrier
 returns-in_err-barrier c =
-    let t = c.before.before.before.before in
-    let e = times-refused _ _ _ _ _ t.loop.invariant t.loop-test.true c.count_change.result c.count_change.ensures _ c.in_err-barrier.was in
+    let e = times-refused _ _ _ _ _ c.loop.invariant c.loop-test.true c.count_change.result c.count_change.ensures _ c.in_err-barrier.was in
     passed_on _ c.from_residual.result _ c.from_residual.ensures.1 ∙ e
 
 pub loop-preserved : goal.loop-preserved

@@ -1,4 +1,4 @@
-use Rattle.std.proofs.Common.{rules, length}
+use Rattle.std.proofs.Common.{length}
 use Rattle.std.proofs.lemmas.List.{length_push}
 use Rattle.trace.specs.Words.{ptr_at}
 use Rattle.pointers.specs.Steps.{member_move}
@@ -16,7 +16,7 @@ loop-entry-init c = roots-begin c.requires
 
 pub loop-entry-preserved : goal.loop-entry-preserved
 loop-entry-preserved c =
-    rw length_push (roots-turn c.loop-entry.invariant (moved-as c.member_move.ensures c.from.ensures (taken (goal.at.loop-entry-preserved c).In-Some)) (search rules) c.swap_cells.ensures.cells_after)
+    rw length_push (roots-turn c.loop-entry.invariant (moved-as c.member_move.ensures c.from.ensures (taken (goal.at.loop-entry-preserved c).In-Some)) c.swap_cells.ensures.cells_after)
 
 pub returns : goal.returns
 returns c = roots-end c.loop-entry.invariant (pairs-end _ _ _ c.into_iter-entry-iterator.result c.loop-entry.entry-iterator c.next.new.self _ (cc c.as_chunks.ensures.front) (cc c.zip-entry-items.ensures.second.0) c.loop-entry.yielded_by c.in-None.is c.next.ensures.steps)

@@ -18,8 +18,8 @@ lent c =
       | else-own-eq0 w ↦ old-lent c.args.own w.if-own-eq0.false (ap (λ p. p.now) w.counts-is)
     ]
 
-pub in_use-requires : goal.in_use-requires
-in_use-requires c = lent-fit c.args.own c.args.image.formed (lent c)
+pub sum-requires : goal.sum-requires
+sum-requires c = lent-fit c.args.own c.args.image.formed (lent c)
 
 pub returns : goal.returns
-returns c = lent-sum c.args.own (lent (goal.at.returns c).Joined-own-eq0) c.in_use.ensures
+returns c = lent-sum c.args.own (lent (goal.at.returns c).Joined-own-eq0) c.sum.ensures

@@ -2,8 +2,5 @@ use borrow.Author.Rules.{rules}
 use Rattle.words.proofs.Laws.{laws}
 use Rattle.words.proofs.splice.Goals as goal
 
-pub returns-in-Blank : goal.returns-in-Blank
-returns-in-Blank c = search (laws, rules)
-
 pub returns-in-Given : goal.returns-in-Given
 returns-in-Given c = search (laws, rules)

@@ -4,4 +4,4 @@ use Rattle.collector.proofs.Saves.{saved-to}
 use Rattle.collector.proofs.saved.save.Goals as goal
 
 pub returns : goal.returns
-returns c = saved-to c.args.image.formed c.layout_of-l.ensures _ (c.in_use.ensures ∙ ap sum c.slot_lengths.ensures) _ c.copy_words.ensures
+returns c = saved-to c.args.image.formed c.layout_of-l.ensures _ (c.sum.ensures ∙ ap sum c.slot_lengths.ensures) _ c.copy_words.ensures

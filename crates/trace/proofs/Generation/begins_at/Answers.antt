@@ -29,8 +29,8 @@ module _ (own : ℕ) (ls : List ℕ) (b : ℕ) (h : own ≡ 0 → ⊥) where
 pub returns-then-self-eq0 : goal.returns-then-self-eq0
 returns-then-self-eq0 c = search young-begins
 
-pub sum_first-requires : goal.sum_first-requires
-sum_first-requires c = (search rules, search old-fits)
+pub sum-requires : goal.sum-requires
+sum-requires c = search old-fits
 
 pub returns : goal.returns
 returns c = search old-is

@@ -1,6 +1,0 @@
-use borrow.Author.Rules.{rules}
-use Rattle.words.proofs.Laws.{laws}
-use Rattle.words.proofs.open_place.Goals as goal
-
-pub returns : goal.returns
-returns c = search (laws, rules)
