@@ -99,46 +99,52 @@ module _ (m : Ptr × ℕ) (i : ℕ) (w : List ℕ) (u : whole_cells w ≡ true) 
   w-is : w ≡ cell_words cs ++ []
   w-is = sym (whole_back w u) ∙ sym (append-nil (cell_words cs))
 
-  -- a is the i-th's words, and x the pointer's
-  module _ (a x : Words) (read : a ≡ words_at w (3 * i)) {v : Cell} (was : v ≡ ref m.0) (made : (x.tag ∷ x.payload ∷ x.offset ∷ []) ≡ cell_words (v ∷ [])) {t : Bool} (told : t ≡ not (same a x)) where
+  missed : (c ≡ ref m.0 → ⊥) → SwappedAt m i cs w false
+  missed other =
+      let none : holds m.0 c ≡ false = false_of (holds m.0 c) (λ h. other (holds-is m.0 c h)) in
+      (rw (swap-no m c none, set-get_or cs i blank) (sym (whole_back w u)), sym none)
+
+  -- x is the pointer's words
+  module _ (x : Words) {v : Cell} (was : v ≡ ref m.0) (made : (x.tag ∷ x.payload ∷ x.offset ∷ []) ≡ cell_words (v ∷ [])) where
     x-is : Equal x (record { tag = m.0.heap * 256 + 5; payload = m.0.base; offset = m.0.off })
     unfolding cell_words
     x-is =
         let e : (x.tag ∷ x.payload ∷ x.offset ∷ []) ≡ cell_words (ref m.0 ∷ []) = made ∙ ap (λ (d : Cell). cell_words (d ∷ [])) was in
         (ap (λ (k : List ℕ). get_or k 0 0) e, ap (λ (k : List ℕ). get_or k 1 0) e, ap (λ (k : List ℕ). get_or k 2 0) e)
 
-    a-is : Equal a (record { tag = kind_word c; payload = payload_word c; offset = offset_word c })
-    a-is = (ap (λ (r : Words). r.tag) read ∙ kind_at cs [] w-is i inside, ap (λ (r : Words). r.payload) read ∙ payload-at cs [] w-is i inside, ap (λ (r : Words). r.offset) read ∙ offset_at cs [] w-is i inside)
+    pub other-kind : (get_or w (3 * i) 0 ≡ x.tag → ⊥) → SwappedAt m i cs w false
+    other-kind d = missed (λ is. d (kind_at cs [] w-is i inside ∙ ap kind_word is ∙ sym x-is.0))
 
-    pub swap-miss : t ≡ true → SwappedAt m i cs w false
-    swap-miss q =
-        let other : c ≡ ref m.0 → ⊥ =
-        λ is.
-        let e : same a x ≡ true =
-        equal-same a x (a-is.0 ∙ ap kind_word is ∙ sym x-is.0, a-is.1 ∙ ap payload_word is ∙ sym x-is.1, a-is.2 ∙ ap offset_word is ∙ sym x-is.2) in
-        false≢true (sym (told ∙ ap not e) ∙ q) in
-        let none : holds m.0 c ≡ false = false_of (holds m.0 c) (λ h. other (holds-is m.0 c h)) in
-        (rw (swap-no m c none, set-get_or cs i blank) (sym (whole_back w u)), sym none)
+    -- a the i-th's
+    module _ (a : Words) (read : a ≡ words_at w (3 * i)) {t : Bool} (told : t ≡ not (same a x)) where
+      a-is : Equal a (record { tag = kind_word c; payload = payload_word c; offset = offset_word c })
+      a-is = (ap (λ (r : Words). r.tag) read ∙ kind_at cs [] w-is i inside, ap (λ (r : Words). r.payload) read ∙ payload-at cs [] w-is i inside, ap (λ (r : Words). r.offset) read ∙ offset_at cs [] w-is i inside)
 
-    -- y is the words of what it becomes, ys what they are written into
-    pub swap-hit : t ≡ false → (y : Words) {n : Cell} → n ≡ ref (moved_to m) → (y.tag ∷ y.payload ∷ y.offset ∷ []) ≡ cell_words (n ∷ []) → (z : List ℕ) → z ≡ y.tag ∷ y.payload ∷ y.offset ∷ [] → {ys : List ℕ} → ys ≡ paste w (3 * i) z (length z) → SwappedAt m i cs ys true
-    unfolding holds
-    swap-hit q y {n} now put z zs {ys} e =
-        let (d, f, g) = same-equal a x (yes (same a x) (sym told ∙ q)) in
-        let is : c ≡ ref m.0 = is-ref m.0 c (valid-at cs i inside (whole-valid w u)) (sym a-is.0 ∙ d ∙ x-is.0) (sym a-is.1 ∙ f ∙ x-is.1) (sym a-is.2 ∙ g ∙ x-is.2) in
-        let held : holds m.0 c ≡ true = rw is (same_ptr-refl m.0) in
-        let words : z ≡ cell_words (ref (moved_to m) ∷ []) = zs ∙ put ∙ ap (λ (k : Cell). cell_words (k ∷ [])) now in
-        let three : length z ≡ 3 = ap length zs in
-        let stored : ys ≡ cell_words (set cs i (ref (moved_to m))) =
-        e
-        ∙ (λ j. paste (w-is j) (3 * i) (words j) (three j))
-        ∙ cell-pasted cs [] i (ref (moved_to m)) inside
-        ∙ append-nil (cell_words (set cs i (ref (moved_to m)))) in
-        (rw (swap-yes m c held) stored, sym held)
-      where
-        yes : (b : Bool) → not b ≡ false → b ≡ true
-        yes true h = refl
-        yes false h = absurd (false≢true (sym h))
+      alike : c ≡ ref m.0 → same a x ≡ true
+      alike is = equal-same a x (a-is.0 ∙ ap kind_word is ∙ sym x-is.0, a-is.1 ∙ ap payload_word is ∙ sym x-is.1, a-is.2 ∙ ap offset_word is ∙ sym x-is.2)
+
+      pub other-words : t ≡ true → SwappedAt m i cs w false
+      other-words q = missed (λ is. false≢true (sym (told ∙ ap not (alike is)) ∙ q))
+
+      -- y is the words of what it becomes, ys what they are written into
+      pub swap-hit : t ≡ false → (y : Words) {n : Cell} → n ≡ ref (moved_to m) → (y.tag ∷ y.payload ∷ y.offset ∷ []) ≡ cell_words (n ∷ []) → (z : List ℕ) → z ≡ y.tag ∷ y.payload ∷ y.offset ∷ [] → {ys : List ℕ} → ys ≡ paste w (3 * i) z (length z) → SwappedAt m i cs ys true
+      unfolding holds
+      swap-hit q y {n} now put z zs {ys} e =
+          let (d, f, g) = same-equal a x (yes (same a x) (sym told ∙ q)) in
+          let is : c ≡ ref m.0 = is-ref m.0 c (valid-at cs i inside (whole-valid w u)) (sym a-is.0 ∙ d ∙ x-is.0) (sym a-is.1 ∙ f ∙ x-is.1) (sym a-is.2 ∙ g ∙ x-is.2) in
+          let held : holds m.0 c ≡ true = rw is (same_ptr-refl m.0) in
+          let words : z ≡ cell_words (ref (moved_to m) ∷ []) = zs ∙ put ∙ ap (λ (k : Cell). cell_words (k ∷ [])) now in
+          let three : length z ≡ 3 = ap length zs in
+          let stored : ys ≡ cell_words (set cs i (ref (moved_to m))) =
+          e
+          ∙ (λ j. paste (w-is j) (3 * i) (words j) (three j))
+          ∙ cell-pasted cs [] i (ref (moved_to m)) inside
+          ∙ append-nil (cell_words (set cs i (ref (moved_to m)))) in
+          (rw (swap-yes m c held) stored, sym held)
+        where
+          yes : (b : Bool) → not b ≡ false → b ≡ true
+          yes true h = refl
+          yes false h = absurd (false≢true (sym h))
 
 -- `swap_cells`: i cells are changed
 

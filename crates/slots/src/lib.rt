@@ -106,7 +106,9 @@ pub fn swap_at(cells: &mut [u64], i: usize, moved: Move) -> bool
     ensures cells_after { cells.new ≡ cell_words (set (cells_in cells.old) i (swap_cell (move_of moved) (get_or (cells_in cells.old) i blank))) }
     ensures value { result ≡ holds (move_of moved).0 (get_or (cells_in cells.old) i blank) }
 {
-    if Words::at(cells, i) != Words::from(moved.was()) {
+    let was = Words::from(moved.was());
+    // The first word first, which tells most cells: without that test an alloc that moves takes twice the instructions.
+    if cells[3 * i] != was.tag || Words::at(cells, i) != was {
         return false;
     }
     let words: [u64; 3] = Words::from(moved.becomes()).into();
