@@ -10,7 +10,7 @@ use native.Mathlib.Nat.{not-suc-le-zero, le_of_suc-le-suc}
 use native.Mathlib.Omega.{arith}
 use borrow.Author.Tests.{eqb-true}
 use mir.Syntax.{w64}
-use mir.Val.{Fits, to_z}
+use mir.Val.{Fits, to_z, of_z}
 use mir.ValLaws.{of_z-to_z}
 use lib.Dec.{eqb}
 use lib.IntN.{ℤ}
@@ -30,14 +30,16 @@ use Rattle.value.specs.declared.Value.TheVariants.{Pointer as PointerV}
 use Rattle.value.specs.declared.Words.{Words}
 use Rattle.trace.specs.Words.{pointer}
 use Rattle.trace.proofs.Places.{in-length}
-use Rattle.slots.specs.Slots.{move_of}
-use Rattle.slots.specs.declared.Move.{Move}
 use Rattle.slots.proofs.Flat.{valid-at, kind_at, payload-at, offset_at}
 
 -- `Move::was`: x is the offset's i64
-pub was-cell : (m : Move) (x : ℤ) → Fits w64 m.offset → x ≡ to_z w64 m.offset → value_cell (PointerV (record { heap = m.heap; base = m.base; offset = x })) ≡ ref (move_of m).0
+pub was-cell : (h b o : ℕ) {x : ℤ} → Fits w64 o → x ≡ to_z w64 o → value_cell (PointerV (record { heap = h; base = b; offset = to_z w64 (of_z w64 x) })) ≡ ref (pointer h b o)
 unfolding value_cell
-was-cell m x s is = rw is (λ i. ref (record { heap = m.heap; base = m.base; off = of_z-to_z w64 m.offset s i }))
+was-cell h b o s is =
+    let back : of_z w64 (to_z w64 o) ≡ o = of_z-to_z w64 o s in
+    ap (λ (k : ℕ). ref (pointer h b k)) (ap (λ (y : ℤ). of_z w64 (to_z w64 (of_z w64 y))) is ∙ ap (λ (k : ℕ). of_z w64 (to_z w64 k)) back ∙ back)
+
+pub ruleset moves = (was-cell)
 
 false_of : (t : Bool) → (t ≡ true → ⊥) → t ≡ false
 false_of true h = absurd (h refl)

@@ -78,6 +78,7 @@ pub struct Move {
 
 impl Move {
     // What a cell holds that is the pointer, before and after.
+    #[tactic(auto, using(crate::proofs::Swaps::moves))]
     pub fn was(self) -> Value
         ensures { value_cell result ≡ ref (move_of self).0 }
     {
