@@ -43,7 +43,7 @@ fn young_value(image: Formed<'_>, i: usize) -> Value
 fn read_young(image: Formed<'_>, base: u64, offset: i64) -> Result<Value, Question>
     ensures { Loads (read (decode image.entry.words.now) (pointer 0 base (of_z w64 offset))) result }
 {
-    let n = fields::header_of(image).n as usize;
+    let n = fields::header_of(image).sizes.n as usize;
     let i = places::index(base, offset, n)?;
     Ok(young_value(image, i))
 }
@@ -119,7 +119,7 @@ fn write_young(image: &mut [u64], base: u64, offset: i64, cell: &[u64]) -> Resul
     requires cell_value { value_good cell.now ≡ true }
     ensures { Leaves (write (decode image.old) (pointer 0 base (of_z w64 offset)) (cell_in cell.now)) image.old result image.new }
 {
-    let n = fields::header_of(Formed { words: image }).n as usize;
+    let n = fields::header_of(Formed { words: image }).sizes.n as usize;
     let i = places::index(base, offset, n)?;
     store_young(image, i, cell)
 }

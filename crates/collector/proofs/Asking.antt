@@ -3,7 +3,7 @@ use mathlib.Core.Path.{◌≡◌, refl, sym, ap, ◌∙◌}
 use mathlib.Core.Bool.{true, false, ◌&&◌}
 use mathlib.Core.List.{List, [], ◌∷◌}
 use Rattle.std.specs.Prelude.{Result, Ok, Err}
-use Prim.Native.Nat.{ℕ, ◌+◌, ◌-◌, ◌*◌, ◌/◌, ◌^◌, ◌≤◌, ◌<◌}
+use Prim.Native.Nat.{ℕ, ◌-◌, ◌*◌, ◌/◌, ◌^◌, ◌≤◌, ◌<◌}
 use native.Mathlib.Omega.{arith}
 use lib.Dec.{T, ltb}
 use lib.IntN.{ℤ, pos, negsuc, nat_abs}
@@ -29,8 +29,9 @@ use Rattle.question.specs.Question.{done_answer}
 use Rattle.question.specs.declared.Question.{Question}
 use Rattle.question.specs.declared.Question.TheVariants as question
 use Rattle.image.specs.Answers.{image_asked}
-use Rattle.image.specs.Places.{image_end}
-use Rattle.image.proofs.Bounds.{bounded, scratch-end}
+use Rattle.model.specs.Heap.{Sizes}
+use Rattle.image.specs.Places.{Bounded}
+use Rattle.image.proofs.Bounds.{bounded}
 use Rattle.image.proofs.Opened.{opened-by}
 use Rattle.fields.specs.Fields.{Reads, Turns, on_young}
 use Rattle.collector.specs.Alloc.{alloc_outcome}
@@ -55,20 +56,13 @@ root-cells roots e =
     let (cells, few) = and_parts _ _ e in
     (cells, omega (arith, leb-true (length roots) (3 * 4096) few))
 
+pub few-roots : (roots : List ℕ) → roots_good roots ≡ true → length roots / 3 ≤ 4096
+few-roots roots e = (root-cells roots e).1
+
 -- 4: the words of scratch
 
-module _ {w : List ℕ} {n s c : ℕ} (i : Image w (decode w)) (rn : Reads (λ h. h.size.n) w n) (rs : Reads (λ h. h.size.s) w s) (rc : Reads (λ h. h.size.c) w c) where
-  pub scratch-bounds : (roots : List ℕ) → roots_good roots ≡ true → (n ≤ 2048) × (s ≤ 8192) × (c ≤ 65536) × (length roots / 3 ≤ 4096)
-  scratch-bounds roots e =
-      let b = bounded (decode w).size i.fit.sizes in (
-        omega (arith, b.n, rn.reads (decode w) i),
-        omega (arith, b.s, rs.reads (decode w) i),
-        omega (arith, b.c, rc.reads (decode w) i),
-        (root-cells roots e).1,
-      )
-
-  pub scratch-is : (r : ℕ) {x : ℕ} → x ≡ image_end n s c + 4 * (r + 2 * n) + 3 * (r + s + c) → x ≡ scratch_length (decode w).size r
-  scratch-is r e = e ∙ rw (← rn.reads (decode w) i, ← rs.reads (decode w) i, ← rc.reads (decode w) i) (scratch-end (decode w).size r)
+pub scratch-bounds : {w : List ℕ} {z : Sizes} → Image w (decode w) → Reads (λ h. h.size) w z → Bounded z
+scratch-bounds i r = rw (← r.reads _ i) (bounded _ i.fit.sizes)
 
 -- 5: the word of an amount
 

@@ -8,17 +8,16 @@ use lib.Seq.{paste, take-paste, length-take-le, take_all, drop-drop}
 use Rattle.model.specs.Lists.{sum}
 use Rattle.model.specs.Records.{Cell}
 use Rattle.model.specs.Heap.{Sizes, in_use}
-use Rattle.model.specs.Image.{image_length, sizes_of, decode}
+use Rattle.model.specs.Image.{sizes_of, decode}
 use Rattle.theorems.specs.Fit.{Image}
-use Rattle.theorems.proofs.Image.{sized-says}
 use Rattle.theorems.proofs.Kept.{sizes-of}
 use Rattle.words.specs.Words.{padded}
 use Rattle.image.specs.Places.{old_cells_at}
 use Rattle.slots.specs.Slots.{Packed, slots_of}
 use Rattle.slots.proofs.Counts.{packed-sum, packed-fits, packed-rest}
 use Rattle.slots.proofs.Parts.{lent, lent_is, lent_length}
-use Rattle.layout.specs.Places.{Laid}
-use Rattle.layout.specs.declared.places.Layout.{Layout}
+use Rattle.image.specs.Laid.{Laid}
+use Rattle.image.specs.declared.places.Layout.{Layout}
 use Rattle.layout.proofs.Tail.{image-says-sized, parts-formed}
 use Rattle.collector.specs.Saving.{SavedTo}
 
@@ -70,12 +69,12 @@ module _ {w : List ℕ} (i : Image w (decode w)) {l : Layout} (p : Laid w l) whe
     rest-is = rw (← part_length (l.old + 3 * used) w end-inside, ← rest-zero) (take-append-drop (l.old + 3 * used) w)
 
     reaches : old_cells_at (decode w).size.n (decode w).size.s ≤ l.old + 3 * used
-    unfolding image_length
+    unfolding sizes_of
     reaches =
         let z : (decode w).size ≡ sizes_of w = sizes-of w in
-        omega (arith, ap (λ (z : Sizes). z.n) z, ap (λ (z : Sizes). z.s) z, (sized-says w (image-says-sized i)).1, p.c, p.end)
+        omega (arith, ap (λ (z : Sizes). z.n) z, ap (λ (z : Sizes). z.s) z, (image-says-sized i).long, p.c, p.end)
 
     pub saved-to : (s : List ℕ) {s' : List ℕ} → s' ≡ paste s 0 (take (l.old + 3 * used) w) (length (take (l.old + 3 * used) w)) → SavedTo w (l.old + 3 * used) s'
     saved-to s q = record { front = copied (l.old + 3 * used) w end-inside s q; rest = rest-is; reaches = reaches; inside = end-inside }
 
-pub ruleset saves = (image-says-sized, part_length, lengths-fit, end-inside)
+pub ruleset saves = (part_length, lengths-fit, end-inside)

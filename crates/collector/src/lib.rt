@@ -37,17 +37,13 @@ pub struct Allocation {
     pub elder: Work,
 }
 
-// The words of scratch that 4 asks for. `Sizes::scratch_words` has nothing for sizes out of bounds; an image's are in bounds, so that here
-// would be an answer that is never given.
+// The words of scratch that 4 asks for.
 fn scratch_for(image: Formed<'_>, roots: &[u64]) -> usize
     requires { roots_good roots.now ≡ true }
     ensures { result ≡ scratch_length (decode image.entry.words.now).size (length roots.now / 3) }
 {
-    let h = fields::header_of(image);
-    let n = h.n as usize;
-    let s = h.s as usize;
-    let c = h.c as usize;
-    image::layout::scratch_length(n, s, c, roots.len() / 3)
+    let z = fields::header_of(image).sizes;
+    z.scratch_length(roots.len() / 3)
 }
 
 // An amount that stays young: nothing is collected.
@@ -56,8 +52,7 @@ fn stay_young(image: &mut [u64], amount: u64) -> Allocation
     requires amount_nonzero { (0 < amount) × (amount < (decode image.old).size.n - (decode image.old).young.cursor) }
     ensures { (roots : List ℕ) → roots_good roots ≡ true → allocated image.old roots (alloc (decode image.old) (cells_in roots) amount) ≡ alloc_outcome (Ok result) image.new roots }
 {
-    let base = fields::header_of(Formed { words: image }).cursor;
-    fields::bump(image, amount);
+    let base = fields::bump(image, amount);
     let pointer = Pointer {
         heap: 0,
         base,

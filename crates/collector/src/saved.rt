@@ -7,7 +7,7 @@ ghost use Rattle.words.specs.Words.{padded};
 ghost use Rattle.collector.specs.Saving.{SavedTo};
 
 use image::formed::Formed;
-use layout::places;
+use image::places;
 
 // Answers how many words were saved.
 #[tactic(auto, using(crate::proofs::Saves::saves))]

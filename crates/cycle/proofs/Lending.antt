@@ -21,9 +21,8 @@ use Rattle.theorems.proofs.Image.{encode-length}
 use Rattle.theorems.proofs.Lists.{take_in, drop-in}
 use Rattle.image.specs.Places.{lengths_at, young_cells_at}
 use Rattle.slots.proofs.Parts.{returned, returned-is, take_put, drop-put}
-use Rattle.layout.specs.Places.{Laid}
-use Rattle.layout.proofs.Tail.{image-says-sized}
-use Rattle.layout.specs.declared.places.Layout.{Layout}
+use Rattle.image.specs.Laid.{Laid}
+use Rattle.image.specs.declared.places.Layout.{Layout}
 use Rattle.fields.specs.Fields.{Reads}
 use Rattle.question.specs.declared.Question.{Question}
 use Rattle.elder.specs.Steps.{place_step}
@@ -112,11 +111,10 @@ module _ {w : List ℕ} (i : Image w (decode w)) {l : Layout} (p : Laid w l) whe
     cells-long = let long = f.long in simp (length-take, length-drop) (omega arith)
 
     module _ (b : ℕ) (some : 0 < get_or (young_in (sizes w) s).lens b 0) where
-      pub part-inside : (b < length (take (l.slots - l.lens) (drop l.lens s)))
-          × (3 * (b + get_or (take (l.slots - l.lens) (drop l.lens s)) b 0) ≤ length (take (l.old - l.young) (drop l.young s)))
-      part-inside =
+      pub part-inside : {lens cells : List ℕ} → lens ≡ take (l.slots - l.lens) (drop l.lens s) → cells ≡ take (l.old - l.young) (drop l.young s) → (b < length lens) × (3 * (b + get_or lens b 0) ≤ length cells)
+      part-inside e g =
           let inside : b + get_or (young_in (sizes w) s).lens b 0 ≤ (sizes w).n = f.inside b some in
-          rw (lens-are, cells_are, lens-long, cells-long) (omega arith, omega arith)
+          rw (e, g, lens-are, cells_are, lens-long, cells-long) (omega arith, omega arith)
 
       valid-part : all_valid (parts_in (sizes w) s b) ≡ true
       unfolding parts_in part young_in
@@ -138,4 +136,4 @@ module _ {w : List ℕ} (i : Image w (decode w)) {l : Layout} (p : Laid w l) whe
         pub part_placed : {answer : Res ℕ} {v : List ℕ} → Does (place_step (cells_in words)) w answer v → Does (place_step (parts_in (sizes w) s b)) w answer v
         part_placed d = rw (words_are, words-in (parts_in (sizes w) s b) valid-part) at d
 
-pub ruleset parts = (image-says-sized, lens-end, cells-end)
+pub ruleset parts = (lens-end, cells-end)

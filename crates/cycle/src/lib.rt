@@ -18,6 +18,7 @@ ghost use Rattle.cycle.specs.Outcomes.{Ready, Ran};
 
 use image::formed::Formed;
 use question::Question;
+use trace::Member;
 use turns::{Gave, Request, Work};
 
 #[cycle(alloc_or_collect_collect_and_push_allocation)]
@@ -64,8 +65,16 @@ pub fn collect_and_push_allocation(
     let c = scratch::collect_nursery(image, roots, scratch)?;
     let mut tally = Work::default();
     for i in 0..c.survivors {
-        let base = scratch::survivor(scratch, image.len(), i);
-        let g = alloc_or_collect(image, roots, masks, scratch, Request::Move(base), 1, false)?;
+        let m = Member::at(&scratch[image.len()..], i);
+        let g = alloc_or_collect(
+            image,
+            roots,
+            masks,
+            scratch,
+            Request::Move(m.base),
+            1,
+            false,
+        )?;
         tally = turns::note(Formed { words: image }, roots, scratch, i, tally, g);
     }
     let g = alloc_or_collect(image, roots, masks, scratch, what, 2, true)?;

@@ -11,7 +11,7 @@ ghost use Rattle.cycle.specs.Scratch.{old_list_at, PartsOf, young_in, parts_in, 
 
 use barrier::masks::Masks;
 use image::formed::Formed;
-use layout::places;
+use image::places;
 use nursery::Collected;
 use question::Question;
 use words::Source;
@@ -31,7 +31,7 @@ impl Parts {
         requires { old_list_at (decode image.words.now).size (length roots.now / 3) < 2 ^ 64 }
         ensures { PartsOf (decode image.entry.words.now).size (length roots.now / 3) result }
     {
-        let n = fields::header_of(image).n as usize;
+        let n = fields::header_of(image).sizes.n as usize;
         let most = roots.len() / 3 + 2 * n;
         let members = image.words.len();
         let bases = members + 3 * most;
@@ -60,14 +60,6 @@ impl Parts {
         let end = self.bases + count;
         &scratch[self.bases..end]
     }
-}
-
-// The base of survivor i.
-pub fn survivor(scratch: &[u64], at: usize, i: usize) -> u64
-    requires { at + (3 * i + 1) < length scratch.now }
-    ensures { result ≡ get_or scratch.now (at + (3 * i + 1)) 0 }
-{
-    scratch[at + (3 * i + 1)]
 }
 
 // A collection of the elder, its members listed at the end of scratch.
@@ -102,7 +94,7 @@ pub fn collect_nursery(
     nursery::collect(image, roots, masks.as_slice(), &mut scratch[at..])
 }
 
-// The saved allocation at base moved to the elder. Not by a method of `Layout`: scratch is longer than the image, and none itself.
+// The saved allocation at base moved to the elder.
 #[tactic(auto, using(crate::proofs::Lending::parts))]
 pub fn place_part(image: &mut [u64], scratch: &[u64], base: u64) -> Result<u64, Question>
     requires image { Image image.old (decode image.old) }
@@ -111,10 +103,10 @@ pub fn place_part(image: &mut [u64], scratch: &[u64], base: u64) -> Result<u64, 
     ensures { Does (place_step (parts_in (decode image.old).size scratch.now base)) image.old (number_answer result) image.new }
 {
     let l = places::layout_of(image);
-    let lens = l.lens;
-    let behind = l.slots;
-    let from = l.young;
-    let end = l.old;
-    let part = nursery::promoted(&scratch[lens..behind], &scratch[from..end], base as usize);
+    let part = nursery::promoted(
+        l.young_lengths(scratch),
+        l.young_cells(scratch),
+        base as usize,
+    );
     elder::place(image, Source::Given(Cells { words: part }))
 }

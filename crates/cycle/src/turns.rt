@@ -103,16 +103,6 @@ pub fn must_collect(image: Formed<'_>, what: Request, left: u64, collected: bool
     }
 }
 
-fn bump(image: &mut [u64], amount: u64) -> Gave
-    requires image { Image image.old (decode image.old) }
-    requires amount_nonzero { (0 < amount) × (amount < (decode image.old).size.n - (decode image.old).young.cursor) }
-    ensures { Gives (bumped amount) image.old (Ok result) image.new }
-{
-    let base = fields::header_of(Formed { words: image }).cursor;
-    fields::bump(image, amount);
-    Gave::at(0, base)
-}
-
 // The generation gives, where it need not be collected before. A move always goes to the elder.
 pub fn give_in(
     image: &mut [u64],
@@ -131,7 +121,7 @@ pub fn give_in(
             if left == 1 {
                 return Ok(Gave::at(1, elder::place(image, Source::Blank(amount as usize))?));
             }
-            Ok(bump(image, amount))
+            Ok(Gave::at(0, fields::bump(image, amount)))
         }
         Request::Move(base) => Ok(Gave::at(1, scratch::place_part(image, scratch, base)?)),
     }

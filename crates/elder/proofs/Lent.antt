@@ -23,8 +23,8 @@ use Rattle.trace.proofs.Places.{in-length}
 use Rattle.slots.specs.Slots.{slots_of, slots_at}
 use Rattle.slots.proofs.Counts.{held-places, packed-sum}
 use Rattle.slots.proofs.Parts.{lent, lent_is}
-use Rattle.layout.specs.Places.{Laid}
-use Rattle.layout.specs.declared.places.Layout.{Layout}
+use Rattle.image.specs.Laid.{Laid}
+use Rattle.image.specs.declared.places.Layout.{Layout}
 use Rattle.layout.proofs.Tail.{slots-inside, slots-at-is, lens-lent, parts-formed}
 use Rattle.fields.specs.Fields.{Reads}
 use Rattle.elder.specs.Steps.{Listed}

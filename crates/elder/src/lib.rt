@@ -21,7 +21,7 @@ ghost use Rattle.elder.specs.Steps.{Listed, swept, Collects, collect_with, colle
 use barrier::{WriteBarrier, cells};
 use image::counts::MOST;
 use image::formed::Formed;
-use layout::places;
+use image::places;
 use question::Question;
 use trace::Generation;
 use words::Source;
@@ -32,7 +32,7 @@ pub fn is_full(image: Formed<'_>) -> bool
 {
     let l = places::layout_of(image.words);
     let n = slots::held(l.slot_lengths(image.words)) as u64;
-    fields::header_of(image).t <= n
+    fields::header_of(image).sizes.t <= n
 }
 
 // ---- Collection

@@ -1,5 +1,5 @@
 -- A barrier by its heap, and one count of it, set where it stands.
-use mathlib.Core.Path.{◌≡◌, refl}
+use mathlib.Core.Path.{◌≡◌, refl, sym}
 use mathlib.Core.Bool.{true}
 use mathlib.Core.List.{List}
 use Prim.Native.Nat.{ℕ, zero, suc, ◌+◌, ◌-◌, ◌≤◌, ◌<◌}
@@ -67,6 +67,9 @@ module _ (own : ℕ) {at end place : ℕ} (from : at ≡ counts_at own) (to : en
   module _ {w : List ℕ} where
     pub bar-loads : {h : Heap} → Image w h → (flagged (get_or w place 0) (take (end - at) (drop at w)) ≡ true) × (length (take (end - at) (drop at w)) ≡ cache)
     bar-loads i = rw (long, from, flag-at) (loads (flag_is i own) (counts-are i own) (bar-fit i own))
+
+    pub counts-read : Reads (λ h. counts (bar_of own h)) w (take (end - at) (drop at w))
+    counts-read = record { reads = λ h i. rw (long, from) (sym (counts-are i own)) }
 
     pub bar-read : {b : Barrier} → b ≡ barrier (get_or w place 0) (take (end - at) (drop at w)) → Reads (λ h. bar_of own h) w b
     bar-read e = record { reads = λ h i. loaded (flag_is i own) (counts-are i own) (rw (long, from, flag-at) at e) }

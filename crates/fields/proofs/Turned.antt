@@ -28,10 +28,11 @@ use Rattle.theorems.proofs.Collect.{bump-fit}
 use Rattle.words.specs.Words.{padded}
 use Rattle.value.specs.declared.Words.{Words}
 use Rattle.value.specs.Value.{words_at}
-use Rattle.image.specs.Places.{size_n, young_counts_at, old_counts_at, lengths_at, slot_lengths_at, young_cells_at, old_cells_at}
-use Rattle.fields.specs.Fields.{Reads, Turns, on_young, on_old, with_bar, with_old_bar, bar_of, on_bar, is_present, with_cell, restarted, collected_once, cell_in, words_of, YoungCells}
-use Rattle.std.specs.declared.ops.Range.{Range}
-use Rattle.fields.proofs.Parts.{decoded, sized-in, n-is, n-read, s_read, young-counts-put, old-counts-put, lengths-put, young-cells-put, lengths, young-cells}
+use Rattle.image.specs.Places.{size_n, young_counts_at, old_counts_at, lengths_at, slot_lengths_at}
+use Rattle.fields.specs.Fields.{Reads, Turns, on_young, on_old, with_bar, with_old_bar, bar_of, on_bar, is_present, with_cell, restarted, collected_once, cell_in, words_of}
+use Rattle.image.specs.Laid.{Laid}
+use Rattle.image.specs.declared.places.Layout.{Layout}
+use Rattle.fields.proofs.Parts.{decoded, sized-in, n-is, lens-at, slots-at, young-counts-put, old-counts-put, lengths-put, young-cells-put, lengths, young-cells}
 
 -- one operation after the other
 
@@ -102,37 +103,29 @@ cell-words-at (c ∷ cs) (suc i) h =
     let e₂ : suc (suc (suc (3 * i))) + 2 ≡ suc (suc (suc (3 * i + 2))) = omega arith in
     rw (e₀, e₁, e₂, words-cons c cs) (cell-words-at cs i (le_of_suc-le-suc h))
 
-pub part-found : {w : List ℕ} {n s : ℕ} (p : Range ℕ) → Image w (decode w) → Reads (λ h. h.size.n) w n → Reads (λ h. h.size.s) w s
-    → p.start ≡ young_cells_at n s → p.end ≡ old_cells_at n s → YoungCells w p
-part-found p i a b e f =
-    let x = n-read i a in
-    let y = s_read i b in
-    let z = sized-in i in
-    record { start = omega arith; end = omega arith; inside = omega arith }
-
-module _ {w : List ℕ} (p : Range ℕ) (y : YoungCells w p) (i : ℕ) (small : i < (decode w).size.n) where
+module _ {w : List ℕ} {l : Layout} (p : Laid w l) (i : ℕ) (small : i < (decode w).size.n) where
   below : {h : Heap} → Image w h → i < length h.young.cells
   below g = omega (arith, g.fit.young.cells, ap (λ (h : Heap). h.size.n) (image-decode g))
 
-  pub cell_room : Image w (decode w) → i * 3 + 3 ≤ length (take (p.end - p.start) (drop p.start w))
-  cell_room g = rw (young-cells g p y) (omega (arith, words-length (decode w).young.cells, below g))
+  pub cell_room : Image w (decode w) → i * 3 + 3 ≤ length (take (l.old - l.young) (drop l.young w))
+  cell_room g = rw (young-cells g p) (omega (arith, words-length (decode w).young.cells, below g))
 
-  pub cell-read : (r : Words) → r ≡ words_at (take (p.end - p.start) (drop p.start w)) (3 * i) → Reads (λ h. cell_words (get_or h.young.cells i blank ∷ [])) w (words_of r)
+  pub cell-read : (r : Words) → r ≡ words_at (take (l.old - l.young) (drop l.young w)) (3 * i) → Reads (λ h. cell_words (get_or h.young.cells i blank ∷ [])) w (words_of r)
   cell-read r a = record {
-    reads = λ h g. sym (cell-words-at h.young.cells i (below g)) ∙ rw (a, young-cells g p y);
+    reads = λ h g. sym (cell-words-at h.young.cells i (below g)) ∙ rw (a, young-cells g p);
   }
 
-  pub cell-put : (cell : List ℕ) {ys : List ℕ} → length cell ≡ 3 → whole_cells cell ≡ true → ys ≡ paste (take (p.end - p.start) (drop p.start w)) (3 * i) cell (length cell)
-      → Turns (on_young (with_cell i (cell_in cell))) w (put_mid p.start (p.end - p.start) w ys)
+  pub cell-put : (cell : List ℕ) {ys : List ℕ} → length cell ≡ 3 → whole_cells cell ≡ true → ys ≡ paste (take (l.old - l.young) (drop l.young w)) (3 * i) cell (length cell)
+      → Turns (on_young (with_cell i (cell_in cell))) w (put_mid l.young (l.old - l.young) w ys)
   unfolding parts_of header flat with_young with_cell
   cell-put cell {ys} l e q = record {
     turns = λ h g.
         let z = g.fit.young in
         let (is, good) = one_cell_lem cell l e in
         let put : ys ≡ cell_words (set h.young.cells i (cell_in cell)) =
-        q ∙ rw (young-cells g p y, l) (ap (λ (u : List ℕ). paste (cell_words h.young.cells) (3 * i) u 3) is ∙ (rw (append-nil, append-nil) at (cell-pasted h.young.cells [] i (cell_in cell) (below g)))) in
+        q ∙ rw (young-cells g p, l) (ap (λ (u : List ℕ). paste (cell_words h.young.cells) (3 * i) u 3) is ∙ (rw (append-nil, append-nil) at (cell-pasted h.young.cells [] i (cell_in cell) (below g)))) in
         record {
-          is = rw (young-cells-put g ys p y, put) (sym (encode-parts (on_young (with_cell i (cell_in cell)) h)));
+          is = rw (young-cells-put g ys p, put) (sym (encode-parts (on_young (with_cell i (cell_in cell)) h)));
           fit = young-fit _ g.fit (record {
             cursor = z.cursor;
             colls = z.colls;
@@ -168,21 +161,20 @@ module _ {w : List ℕ} {at : ℕ} (amount : ℕ) (r : Reads (λ h. h.young.curs
   }
 
 -- no allocation, and other counters
-pub restart-turns : {w ys : List ℕ} {n to colls proms : ℕ} → Reads (λ h. h.size.n) w n → to ≡ slot_lengths_at n → colls ≤ most → proms ≤ most
-    → ys ≡ padded (take 0 (take (to - lengths_at) (drop lengths_at w))) (length (take (to - lengths_at) (drop lengths_at w)))
-    → Turns (on_young (restarted colls proms)) w (set (set (set (put_mid lengths_at (to - lengths_at) w ys) 4 0) 5 colls) 6 proms)
+pub restart-turns : {w ys : List ℕ} {l : Layout} {colls proms : ℕ} → Laid w l → colls ≤ most → proms ≤ most
+    → ys ≡ padded (take 0 (take (l.slots - l.lens) (drop l.lens w))) (length (take (l.slots - l.lens) (drop l.lens w)))
+    → Turns (on_young (restarted colls proms)) w (set (set (set (put_mid l.lens (l.slots - l.lens) w ys) 4 0) 5 colls) 6 proms)
 unfolding parts_of header flat with_young restarted padded fresh
-restart-turns {w} {ys} {n} {to} {colls} {proms} r e k l q = record {
+restart-turns {w} {ys} {l} {colls} {proms} p k m q = record {
   turns = λ h i.
       let z = i.fit.young in
-      let end : to ≡ slot_lengths_at (size_n w) = omega (arith, n-read i r) in
-      let zeros : ys ≡ replicate (length h.young.lens) 0 = q ∙ rw (lengths i to end, sub-zero (length h.young.lens)) in
+      let zeros : ys ≡ replicate (length h.young.lens) 0 = q ∙ rw (lens-at i p, lengths i l.slots (slots-at i p), sub-zero (length h.young.lens)) in
       record {
-        is = rw (lengths-put i ys to end, zeros) (sym (encode-parts (on_young (restarted colls proms) h)));
+        is = rw (lens-at i p, lengths-put i ys l.slots (slots-at i p), zeros) (sym (encode-parts (on_young (restarted colls proms) h)));
         fit = young-fit _ i.fit (record {
           cursor = (fresh-fit h.size i.fit.sizes).young.cursor;
           colls = k;
-          proms = l;
+          proms = m;
           bar = z.bar;
           lens = length-replicate (length h.young.lens) 0 ∙ z.lens;
           tiled = zeros-tiled (length h.young.lens);

@@ -1,13 +1,12 @@
 -- What is read from an image, and what becomes of it, whatever heap the words are the image of.
-use Rattle.std.specs.Prelude.{◌≡◌, Bool, true, false, List, [], ◌∷◌, ℕ, zero, suc, ◌≤◌, length, get_or, set, replicate}
+use Rattle.std.specs.Prelude.{◌≡◌, Bool, true, false, List, [], ◌∷◌, ℕ, zero, suc, length, get_or, set, replicate}
 use Rattle.model.specs.Records.{Cell, cell_of}
 use Rattle.model.specs.Barrier.{Barrier, absent, present, counts}
 use Rattle.model.specs.Heap.{Nursery, Elder, Heap}
 use Rattle.theorems.specs.Fit.{Image}
 use Rattle.theorems.specs.Does.{with_young, with_old}
 use Rattle.value.specs.declared.Words.{Words}
-use Rattle.image.specs.Places.{size_n, size_s, young_counts_at, old_counts_at, young_cells_at, old_cells_at}
-use Rattle.std.specs.declared.ops.Range.{Range}
+use Rattle.image.specs.Places.{young_counts_at, old_counts_at}
 
 -- r is what f says of the heap
 pub record Reads {A : Type 0} (f : Heap → A) (w : List ℕ) (r : A) : Type 0 where
@@ -75,9 +74,3 @@ cell_in w = cell_of (get_or w 0 0) (get_or w 1 0) (get_or w 2 0)
 
 abbrev pub words_of : Words → List ℕ
 words_of r = r.tag ∷ r.payload ∷ r.offset ∷ []
-
--- where the nursery's cells stand
-pub record YoungCells (w : List ℕ) (p : Range ℕ) : Type 0 where
-  pub start : p.start ≡ young_cells_at (size_n w) (size_s w)
-  pub end : p.end ≡ old_cells_at (size_n w) (size_s w)
-  pub inside : p.end ≤ length w

@@ -4,47 +4,41 @@
 
 ghost use Rattle.std.specs.Prelude.{◌≡◌, true, [], ◌∷◌, ◌+◌, ◌-◌, ◌*◌, ◌<◌, ◌≤◌, length, get_or};
 ghost use Rattle.model.specs.Records.{blank, cell_words, whole_cells};
-ghost use Rattle.model.specs.Barrier.{absent, most};
+ghost use Rattle.model.specs.Barrier.{absent, most, counts};
 ghost use Rattle.model.specs.Image.{decode};
 ghost use Rattle.model.specs.Nursery.{bump, emptied};
 ghost use Rattle.theorems.specs.Fit.{FitBarrier, Image};
 ghost use Rattle.barrier.specs.Counts.{barrier_of};
-ghost use Rattle.fields.specs.Fields.{Reads, Turns, on_young, on_old, with_bar, bar_of, on_bar, is_present, with_count, flag_at, counts_at, with_cell, restarted, collected_once, cell_in, words_of, YoungCells};
+ghost use Rattle.image.specs.Places.{model_sizes};
+ghost use Rattle.fields.specs.Fields.{Reads, Turns, on_young, on_old, with_bar, bar_of, on_bar, is_present, with_count, flag_at, counts_at, with_cell, restarted, collected_once, cell_in, words_of};
 
 use barrier::WriteBarrier;
 use image::formed::Formed;
-use image::layout;
+use image::sizes::Sizes;
+use image::{layout, places};
 use std::ops::Range;
 use value::Words;
 
 // The sizes, the nursery's cursor and counters, and the elder's counter.
 #[derive(Clone, Copy)]
 pub struct Header {
-    pub n: u64,
-    pub t: u64,
-    pub s: u64,
-    pub c: u64,
+    pub sizes: Sizes,
     pub cursor: u64,
     pub young_collections: u64,
     pub promotions: u64,
     pub old_collections: u64,
 }
 
+#[tactic(auto, using(crate::proofs::Parts::in_image))]
 pub fn header_of(image: Formed<'_>) -> Header
-    ensures n { Reads (λ h. h.size.n) image.entry.words.now result.n }
-    ensures t { Reads (λ h. h.size.t) image.entry.words.now result.t }
-    ensures s { Reads (λ h. h.size.s) image.entry.words.now result.s }
-    ensures c { Reads (λ h. h.size.c) image.entry.words.now result.c }
+    ensures sizes { Reads (λ h. h.size) image.entry.words.now (model_sizes result.sizes) }
     ensures cursor { Reads (λ h. h.young.cursor) image.entry.words.now result.cursor }
     ensures young_collections { Reads (λ h. h.young.colls) image.entry.words.now result.young_collections }
     ensures promotions { Reads (λ h. h.young.proms) image.entry.words.now result.promotions }
     ensures old_collections { Reads (λ h. h.old.colls) image.entry.words.now result.old_collections }
 {
     Header {
-        n: image.words[layout::SIZE_N],
-        t: image.words[layout::SIZE_T],
-        s: image.words[layout::SIZE_S],
-        c: image.words[layout::SIZE_C],
+        sizes: Sizes::of(image.words),
         cursor: image.words[layout::CURSOR],
         young_collections: image.words[layout::YOUNG_COLLECTIONS],
         promotions: image.words[layout::PROMOTIONS],
@@ -53,38 +47,44 @@ pub fn header_of(image: Formed<'_>) -> Header
 }
 
 // Where a barrier's flag and its counts stand.
-#[derive(Clone, Copy)]
+#[derive(Drop)]
 struct Places {
     flag: usize,
-    counts: usize,
+    counts: Range<usize>,
 }
 
 // The nursery's for 0, else the elder's. A heap's number is any u8: a narrower type would ask more of callers.
 fn places_of(own: u8) -> Places
     ensures flag { (result.flag ≡ flag_at own) × (result.flag < 10) }
-    ensures counts { (result.counts ≡ counts_at own) × (result.counts + 256 ≤ 522) }
+    ensures counts { (result.counts.start ≡ counts_at own) × (result.counts.end ≡ result.counts.start + 256) × (result.counts.end ≤ 522) }
 {
     if own == 0 {
         Places {
             flag: layout::YOUNG_PRESENT,
-            counts: layout::YOUNG_COUNTS,
+            counts: layout::YOUNG_COUNTS..layout::OLD_COUNTS,
         }
     } else {
         Places {
             flag: layout::OLD_PRESENT,
-            counts: layout::OLD_COUNTS,
+            counts: layout::OLD_COUNTS..layout::LENGTHS,
         }
     }
 }
 
+// The counts of heap `own`'s barrier. Those of an absent one are zero.
+pub fn counts_of<'a>(image: Formed<'a>, own: u8) -> &'a [u64]
+    ensures { Reads (λ h. counts (bar_of own h)) image.entry.words.now result.now }
+{
+    &image.words[places_of(own).counts]
+}
+
 // The barrier of heap `own`.
+#[tactic(auto, using(crate::proofs::Parts::in_image))]
 pub fn barrier_of(image: Formed<'_>, own: u8) -> WriteBarrier
     ensures { Reads (λ h. bar_of own h) image.entry.words.now (barrier_of result) }
 {
     let p = places_of(own);
-    let at = p.counts;
-    let end = at + WriteBarrier::SIZE;
-    barrier::words::load(image.words[p.flag], &image.words[at..end])
+    barrier::words::load(image.words[p.flag], &image.words[p.counts])
 }
 
 pub fn put_barrier(image: &mut [u64], own: u8, b: WriteBarrier)
@@ -93,12 +93,11 @@ pub fn put_barrier(image: &mut [u64], own: u8, b: WriteBarrier)
     ensures { Turns (λ h. on_bar own (barrier_of b) h) image.old image.new }
 {
     let p = places_of(own);
-    let at = p.counts;
-    let end = at + WriteBarrier::SIZE;
-    barrier::words::store(b, &mut image[at..end]);
+    barrier::words::store(b, &mut image[p.counts]);
     image[p.flag] = barrier::words::flag_word(b);
 }
 
+#[tactic(auto, using(crate::proofs::Parts::in_image))]
 pub fn is_present(image: Formed<'_>, own: u8) -> bool
     ensures { Reads (λ h. is_present (bar_of own h)) image.entry.words.now result }
 {
@@ -112,25 +111,16 @@ pub fn put_count(image: &mut [u64], own: u8, k: usize, n: u64)
     ensures { Turns (λ h. on_bar own (with_count k n (bar_of own h)) h) image.old image.new }
 {
     let p = places_of(own);
-    image[p.counts + k] = n;
+    image[p.counts.start + k] = n;
     image[p.flag] = 1;
-}
-
-// Where the nursery's cells stand.
-fn young_part(image: Formed<'_>) -> Range<usize>
-    ensures { YoungCells image.entry.words.now result }
-{
-    let h = header_of(image);
-    let n = h.n as usize;
-    let s = h.s as usize;
-    layout::young_cells(n, s)..layout::old_cells(n, s)
 }
 
 pub fn young_cell(image: Formed<'_>, i: usize) -> Words
     requires { i < (decode image.words.now).size.n }
     ensures { Reads (λ h. cell_words (get_or h.young.cells i blank ∷ [])) image.entry.words.now (words_of result) }
 {
-    Words::at(&image.words[young_part(image)], i)
+    let l = places::layout_of(image.words);
+    Words::at(l.young_cells(image.words), i)
 }
 
 pub fn put_young_cell(image: &mut [u64], i: usize, cell: &[u64])
@@ -139,19 +129,21 @@ pub fn put_young_cell(image: &mut [u64], i: usize, cell: &[u64])
     requires cell_len { (length cell.now ≡ 3) × (whole_cells cell.now ≡ true) }
     ensures { Turns (on_young (with_cell i (cell_in cell.now))) image.old image.new }
 {
-    let part = young_part(Formed { words: image });
-    words::copy_words(&mut image[part], 3 * i, cell);
+    let l = places::layout_of(image);
+    words::copy_words(&mut image[l.young..l.old], 3 * i, cell);
 }
 
-// One more allocation, at the cursor.
-pub fn bump(image: &mut [u64], amount: u64)
+// One more allocation, at the cursor; its base.
+pub fn bump(image: &mut [u64], amount: u64) -> u64
     requires image { Image image.old (decode image.old) }
     requires amount_nonzero { (0 < amount) × (amount < (decode image.old).size.n - (decode image.old).young.cursor) }
-    ensures { Turns (on_young (λ y. bump y amount)) image.old image.new }
+    ensures turns { Turns (on_young (λ y. bump y amount)) image.old image.new }
+    ensures base { Reads (λ h. h.young.cursor) image.old result }
 {
     let at = header_of(Formed { words: image }).cursor;
     image[layout::LENGTHS + at as usize] = amount;
     image[layout::CURSOR] = at + amount;
+    at
 }
 
 // No allocation, with these counters.
@@ -160,8 +152,8 @@ fn restart(image: &mut [u64], collections: u64, promotions: u64)
     requires collections_le_most { (collections ≤ most) × (promotions ≤ most) }
     ensures { Turns (on_young (restarted collections promotions)) image.old image.new }
 {
-    let behind = layout::slot_lengths(header_of(Formed { words: image }).n as usize);
-    words::zero_from(&mut image[layout::LENGTHS..behind], 0);
+    let l = places::layout_of(image);
+    words::zero_from(&mut image[l.lens..l.slots], 0);
     image[layout::CURSOR] = 0;
     image[layout::YOUNG_COLLECTIONS] = collections;
     image[layout::PROMOTIONS] = promotions;
@@ -191,6 +183,7 @@ pub fn empty_nursery(image: &mut [u64], visits: u64)
     restart(image, collections, moved);
 }
 
+#[tactic(auto, using(crate::proofs::Parts::in_image))]
 pub fn count_old_collection(image: &mut [u64])
     requires image { Image image.old (decode image.old) }
     requires image_bound { (decode image.old).old.colls < most }

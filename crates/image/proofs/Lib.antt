@@ -5,3 +5,4 @@ pub mod Packs
 pub mod Parts
 pub mod Zeros
 pub mod Opened
+pub mod Offsets

@@ -4,7 +4,7 @@ ghost use Rattle.model.specs.Image.{cursor_in, formed};
 ghost use Rattle.image.specs.Places.{Sized};
 ghost use Rattle.image.specs.Conditions.{counters_good, barriers_good, young_good, old_good};
 
-use super::{cells, counts, layout, lengths};
+use super::{cells, counts, layout, lengths, places};
 
 // Is the cursor below n, or n 0?
 fn cursor_in(cursor: u64, n: u64) -> bool
@@ -49,29 +49,18 @@ impl Measured<'_> {
     fn young(self) -> bool
         ensures { result ≡ young_good self.entry.words.now }
     {
-        let n = self.words[layout::SIZE_N] as usize;
-        let s = self.words[layout::SIZE_S] as usize;
-        let behind = layout::slot_lengths(n);
-        let at = layout::young_cells(n, s);
-        let end = layout::old_cells(n, s);
-        lengths::tiled(
-            self.words[layout::CURSOR],
-            &self.words[layout::LENGTHS..behind],
-        ) && cells::whole(&self.words[at..end])
+        let l = places::layout_of(self.words);
+        lengths::tiled(self.words[layout::CURSOR], l.young_lengths(self.words))
+            && cells::whole(l.young_cells(self.words))
     }
 
     // The elder's lengths and cells. A sum of c + 1 stands for any that is too large.
     fn old(self) -> bool
         ensures { result ≡ old_good self.entry.words.now }
     {
-        let n = self.words[layout::SIZE_N] as usize;
-        let s = self.words[layout::SIZE_S] as usize;
-        let c = self.words[layout::SIZE_C];
-        let from = layout::slot_lengths(n);
-        let to = layout::young_cells(n, s);
-        let k = lengths::sum_to(c + 1, &self.words[from..to]);
-        let at = layout::old_cells(n, s);
-        cells::packed(&self.words[at..], c as usize, k as usize)
+        let l = places::layout_of(self.words);
+        let k = lengths::sum_to(l.c as u64 + 1, l.slot_lengths(self.words));
+        cells::packed(l.elder_cells(self.words), l.c, k as usize)
     }
 
     // Question 2.

@@ -25,6 +25,7 @@ fn tile(left: u64, skip: u64, x: u64) -> Option<(u64, u64)>
 pub fn tiled(cursor: u64, lengths: &[u64]) -> bool
     ensures { result ≡ tiles cursor 0 lengths.now }
 {
+    // not by `try_fold`: each allocation takes 9 instructions more, each word behind the last 6
     let mut left = cursor;
     let mut skip = 0;
     for x in lengths {
@@ -37,16 +38,10 @@ pub fn tiled(cursor: u64, lengths: &[u64]) -> bool
     left == 0
 }
 
-// The sum, or limit if the sum is above it: damaged lengths do not overflow.
+// The sum, or limit if the sum is above it. Damaged lengths may add up to more than a word.
 pub fn sum_to(limit: u64, lengths: &[u64]) -> u64
     ensures { result ≡ min (sum lengths.now) limit }
 {
-    let mut left = limit;
-    for x in lengths {
-        if left <= *x {
-            return limit;
-        }
-        left -= *x;
-    }
-    limit - left
+    let sum = lengths.iter().fold(0u64, |sum, x| sum.saturating_add(*x));
+    sum.min(limit)
 }

@@ -7,6 +7,7 @@ mod form;
 pub mod formed;
 pub mod layout;
 mod lengths;
+pub mod places;
 pub mod sizes;
 
 ghost use Rattle.std.specs.Prelude.{◌≡◌};

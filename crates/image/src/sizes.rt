@@ -6,8 +6,6 @@ ghost use Rattle.model.specs.Image.{image_length, sized};
 ghost use Rattle.model.specs.Calls.{scratch_length};
 ghost use Rattle.image.specs.Places.{model_sizes};
 
-use super::layout;
-
 // The bounds of the sizes.
 const MOST_N: u64 = 2048;
 
@@ -36,30 +34,25 @@ impl Sizes {
     }
 
     // The words of an image, if the sizes are within bounds.
+    #[tactic(auto, using(crate::proofs::Bounds::asked_bounds))]
     pub fn image_words(self) -> Option<u64>
         ensures { result ≡ then_some (in_bounds (model_sizes self)) (image_length (model_sizes self)) }
     {
         if !self.in_bounds() {
             return None;
         }
-        let length = layout::image_length(self.n as usize, self.s as usize, self.c as usize);
-        Some(length as u64)
+        Some(self.image_length() as u64)
     }
 
     // The words of scratch that r root cells want, if the sizes and r are within bounds.
+    #[tactic(auto, using(crate::proofs::Bounds::asked_bounds))]
     pub fn scratch_words(self, r: u64) -> Option<u64>
         ensures { result ≡ then_some (in_bounds (model_sizes self) && leb r 4096) (scratch_length (model_sizes self) r) }
     {
         if !self.in_bounds() || ROOTS < r {
             return None;
         }
-        let length = layout::scratch_length(
-            self.n as usize,
-            self.s as usize,
-            self.c as usize,
-            r as usize,
-        );
-        Some(length as u64)
+        Some(self.scratch_length(r as usize) as u64)
     }
 
     // Are the sizes within bounds, and is the length theirs?

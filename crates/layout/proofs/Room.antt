@@ -24,9 +24,9 @@ use Rattle.slots.specs.Slots.{slots_at}
 use Rattle.slots.proofs.Flat.{map-set}
 use Rattle.slots.proofs.Counts.{held-places}
 use Rattle.slots.proofs.Parts.{lent, lent_length}
-use Rattle.layout.specs.Places.{Laid}
+use Rattle.image.specs.Laid.{Laid}
 use Rattle.layout.specs.Elder.{fit_answer, fit_for, fit_words}
-use Rattle.layout.specs.declared.places.Layout.{Layout}
+use Rattle.image.specs.declared.places.Layout.{Layout}
 use Rattle.std.specs.Prelude.{Result, Ok, Err}
 use Rattle.question.specs.declared.Question.{Question}
 use Rattle.question.specs.declared.Question.TheVariants as question

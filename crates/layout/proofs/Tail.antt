@@ -12,7 +12,7 @@ use Rattle.model.specs.Res.{ok, ◌>>=◌, ask}
 use Rattle.model.specs.Records.{Ptr, Cell, blank, cell_words, all_valid}
 use Rattle.model.specs.Barrier.{counts}
 use Rattle.model.specs.Heap.{Sizes, Heap, in_use}
-use Rattle.model.specs.Image.{sizes_of, flag, encode, decode, sized}
+use Rattle.model.specs.Image.{sizes_of, flag, encode, decode}
 use Rattle.model.specs.Collector.{holds, old_at, read}
 use Rattle.theorems.specs.Fit.{Fit, Image}
 use Rattle.theorems.proofs.Cells.{words-length}
@@ -26,9 +26,11 @@ use Rattle.value.specs.declared.Words.{Words}
 use Rattle.slots.proofs.Counts.{packed-is, elder-is, slots_length}
 use Rattle.slots.proofs.Parts.{lent, returned, lent_is, lent_length, returned-is}
 use Rattle.slots.proofs.Changes.{joint-cells, joint-elder, joint-changed}
-use Rattle.layout.specs.Places.{Laid}
+use Rattle.image.specs.Places.{Sized}
+use Rattle.image.specs.Laid.{Laid}
+use Rattle.image.proofs.Bounds.{is-sized}
 use Rattle.layout.specs.Elder.{with_slots, Turned}
-use Rattle.layout.specs.declared.places.Layout.{Layout}
+use Rattle.image.specs.declared.places.Layout.{Layout}
 
 -- an image up to the elder's lengths, and from there on
 
@@ -80,8 +82,8 @@ module _ {w : List ℕ} {h : Heap} (i : Image w h) where
   unfolding in_use
   cells-length = padded-length (cell_words (flat ss)) (h.size.c * 3) (omega (arith, words-length (flat ss), i.fit.old.room))
 
-  pub image-says-sized : sized w ≡ true
-  image-says-sized = (image-sized i).0
+  pub image-says-sized : Sized w
+  image-says-sized = is-sized w (image-sized i).0
 
   packed-in : Packed (map length ss) (padded (cell_words (flat ss)) (h.size.c * 3)) ss
   packed-in = record {

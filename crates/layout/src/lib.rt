@@ -2,8 +2,6 @@
 // operation can follow another.
 #![tactic(auto)]
 
-pub mod places;
-
 ghost use Rattle.std.specs.Prelude.{◌≡◌, true, [], map, ◌≤◌, ◌<◌, length, get_or, set, replicate};
 ghost use Rattle.model.specs.Lists.{keep_if, flat, sum};
 ghost use Rattle.model.specs.Res.{ok};
@@ -18,6 +16,7 @@ ghost use Rattle.slots.specs.Slots.{ReadBy, written, move_of};
 ghost use Rattle.layout.specs.Elder.{Turned, fit_answer, fit_for, fit_words};
 
 use image::formed::Formed;
+use image::places;
 use question::Question;
 use slots::Move;
 use value::Words;

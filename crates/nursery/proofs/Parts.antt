@@ -19,8 +19,8 @@ use Rattle.theorems.proofs.Tiles.{cursor-le, allocation-inside}
 use Rattle.trace.specs.Words.{members}
 use Rattle.trace.proofs.Entries.{length-members}
 use Rattle.trace.proofs.Places.{in-length}
-use Rattle.layout.specs.Places.{regions_at, Laid}
-use Rattle.layout.specs.declared.places.Layout.{Layout}
+use Rattle.image.specs.Laid.{regions_at, Laid}
+use Rattle.image.specs.declared.places.Layout.{Layout}
 use Rattle.fields.specs.Fields.{Reads}
 use Rattle.nursery.specs.Steps.{Listed}
 

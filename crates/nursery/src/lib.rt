@@ -13,7 +13,7 @@ ghost use Rattle.nursery.specs.Steps.{Listed, collected_answer, collect_step};
 
 use image::counts::MOST;
 use image::formed::Formed;
-use layout::places;
+use image::places;
 use question::Question;
 use trace::Generation;
 
@@ -29,10 +29,11 @@ pub fn fits(image: Formed<'_>, amount: u64) -> bool
     ensures { Reads (λ h. ltb amount (h.size.n - h.young.cursor)) image.entry.words.now result }
 {
     let h = fields::header_of(image);
-    amount < h.n - h.cursor
+    amount < h.sizes.n - h.cursor
 }
 
-// Lists the members of a collection; how many there are.
+// Lists the members of a collection; how many there are. Not one function for both heaps: whatever stands in here and in the contract,
+// other than the call, would be chosen by the heap's number.
 fn members(image: Formed<'_>, roots: &[u64], masks: &[u64], list: &mut [u64]) -> usize
     requires { 3 * (length roots.now / 3 + 2 * (decode image.words.now).size.n) ≤ length list.old }
     ensures { Listed (cells_in roots.now) masks.now image.entry.words.now result list.new }

@@ -21,11 +21,10 @@ use Rattle.theorems.proofs.Lists.{take_in, drop-in}
 use Rattle.theorems.proofs.Parts.{header, parts_of, encode-parts}
 use Rattle.theorems.proofs.Tiles.{cursor-le}
 use Rattle.slots.proofs.Flat.{words_append}
-use Rattle.layout.specs.Places.{Laid}
-use Rattle.layout.proofs.Tail.{image-says-sized}
-use Rattle.layout.specs.declared.places.Layout.{Layout}
-use Rattle.fields.specs.Fields.{Reads, Turns, on_young, YoungCells}
-use Rattle.fields.proofs.Parts.{sized-in, n-is, young-cells, young-cells-put}
+use Rattle.image.specs.Laid.{Laid}
+use Rattle.image.specs.declared.places.Layout.{Layout}
+use Rattle.fields.specs.Fields.{Reads, Turns, on_young}
+use Rattle.fields.proofs.Parts.{n-is, young-cells, young-cells-put}
 use Rattle.pointers.specs.Steps.{swapped_young}
 
 swapped-fit : (z : Sizes) (y : Nursery) (m : Ptr × ℕ) → FitNursery z y → FitNursery z (swapped_young m y)
@@ -63,10 +62,6 @@ module _ {w : List ℕ} {l : Layout} (p : Laid w l) {k : ℕ} (at-cursor : Reads
     abbrev cs : List Cell
     cs = h.young.cells
 
-    stand : YoungCells w (record { start = l.young; end = l.old })
-    unfolding sizes_of
-    stand = let long = (sized-in i).long in record { start = omega arith; end = omega arith; inside = omega arith }
-
     few : k ≤ length cs
     few = let c = cursor-le h.young.cursor h.size.n i.fit.young.cursor in omega (arith, at-cursor.reads h i)
 
@@ -81,7 +76,7 @@ module _ {w : List ℕ} {l : Layout} (p : Laid w l) {k : ℕ} (at-cursor : Reads
     end-inside = omega (arith, few, full_is)
 
     all_are : take full (drop l.young w) ≡ cell_words (take k cs) ++ cell_words (drop k cs)
-    all_are = young-cells i _ stand ∙ rw (← words_append, take-append-drop k cs)
+    all_are = young-cells i p ∙ rw (← words_append, take-append-drop k cs)
 
     below-are : take size (drop l.young w) ≡ cell_words (take k cs)
     below-are = sym (take-take size full (drop l.young w) (omega (arith, few, full_is))) ∙ rw all_are (take_at (cell_words (take k cs)) (cell_words (drop k cs)) size size_is)
@@ -113,7 +108,7 @@ module _ {w : List ℕ} {l : Layout} (p : Laid w l) {k : ℕ} (at-cursor : Reads
           let cells : ys ++ cell_words (drop k cs) ≡ cell_words (map (swap_cell m) (take h.young.cursor cs) ++ drop h.young.cursor cs) =
           rw (e, below-cells, ← words_append, at-cursor.reads h i) in
           record {
-            is = put_is ys ∙ young-cells-put i (ys ++ cell_words (drop k cs)) _ stand ∙ rw cells (sym (encode-parts (on_young (swapped_young m) h)));
+            is = put_is ys ∙ young-cells-put i (ys ++ cell_words (drop k cs)) p ∙ rw cells (sym (encode-parts (on_young (swapped_young m) h)));
             fit = record { sizes = i.fit.sizes; young = swapped-fit h.size h.young m i.fit.young; old = i.fit.old };
           }
 
@@ -123,4 +118,4 @@ module _ {w : List ℕ} {l : Layout} (p : Laid w l) {k : ℕ} (at-cursor : Reads
     pub young-swapped : Turns (on_young (swapped_young m)) w (put_mid l.young size w ys) × (r ≡ length (keep_if (holds m.0) (take (decode w).young.cursor (decode w).young.cells)))
     young-swapped = (record { turns = λ h j. swapped-image j m c.0 }, rw (at-cursor.reads (decode w) i, ← below-cells i) c.1)
 
-pub ruleset ends = (image-says-sized, end-inside, below-whole)
+pub ruleset ends = (end-inside, below-whole)

@@ -18,7 +18,7 @@ ghost use Rattle.fields.specs.Fields.{Turns, on_young};
 ghost use Rattle.pointers.specs.Steps.{swapped_young, count_moved, change_step, changes_step, member_move, moves_of};
 
 use image::formed::Formed;
-use layout::places;
+use image::places;
 use question::Question;
 use slots::Move;
 use trace::Member;
@@ -76,7 +76,8 @@ pub fn change(image: &mut [u64], moved: Move) -> Result<(), Question>
     count(image, 1, old, moved)
 }
 
-// ---- All of them: the members are the nursery's, three words each, and each has its new base beside it
+// ---- All of them: the members are the nursery's, three words each, and each has its new base beside it. Not an iterator of moves that is
+// handed in: a function that answers `impl Iterator` gets no proof, and a type with a `next` of its own is longer than both loops.
 
 // A member's move.
 fn member_move(m: Member, new: u64) -> Move

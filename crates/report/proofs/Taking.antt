@@ -1,8 +1,8 @@
 -- The numbers, as they are read from an image.
-use mathlib.Core.Path.{◌≡◌, refl, sym, ap, ◌∙◌}
+use mathlib.Core.Path.{◌≡◌, sym, ap, ◌∙◌}
 use mathlib.Core.Bool.{true}
 use mathlib.Core.List.{List, [], ◌∷◌, ◌++◌}
-use Prim.Native.Nat.{ℕ, zero, suc, ◌-◌, ◌*◌, ◌^◌, ◌≤◌, ◌<◌}
+use Prim.Native.Nat.{ℕ, ◌-◌, ◌*◌, ◌^◌, ◌≤◌, ◌<◌}
 use native.Mathlib.Omega.{arith}
 use lib.Dec.{leb}
 use lib.ListN.{length, take, drop}
@@ -17,14 +17,13 @@ use Rattle.theorems.proofs.Lists.{and_left, and_right}
 use Rattle.theorems.proofs.Image.{regions_of, encode-regions}
 use Rattle.theorems.proofs.Regions.{lengths-sum}
 use Rattle.theorems.proofs.Tiles.{cursor-le}
-use Rattle.image.specs.Places.{young_counts_at, old_counts_at}
 use Rattle.slots.proofs.Counts.{held-places}
-use Rattle.layout.specs.Places.{Laid, regions_at}
-use Rattle.layout.specs.declared.places.Layout.{Layout}
+use Rattle.image.specs.Laid.{Laid, regions_at}
+use Rattle.image.specs.declared.places.Layout.{Layout}
 use Rattle.layout.proofs.Tail.{lens-lent}
 use Rattle.image.proofs.Bounds.{bounded}
 use Rattle.fields.specs.Fields.{Reads, bar_of}
-use Rattle.fields.proofs.Parts.{young-counts, old-counts}
+use Rattle.fields.proofs.Counts.{bar-fit}
 use Rattle.report.specs.Numbers.{young_numbers, old_numbers, numbers}
 use Rattle.report.specs.declared.Nursery.{Nursery}
 use Rattle.report.specs.declared.Elder.{Elder}
@@ -43,31 +42,14 @@ counts-fit : (b : Barrier) → FitBarrier b → sum (counts b) < 2 ^ 64
 unfolding cache
 counts-fit b f = omega (arith, sum-small (counts b) f.bounded, f.size)
 
--- a part of an image that is the counts of heap `own`'s barrier
-abbrev pub Lent : List ℕ → ℕ → List ℕ → Type 0
-Lent w own part = (h : Heap) → Image w h → part ≡ counts (bar_of own h)
-
 module _ {w : List ℕ} where
-  pub young-lent : (own : ℕ) {part : List ℕ} → own ≡ 0 → part ≡ take 256 (drop young_counts_at w) → Lent w own part
-  unfolding bar_of
-  young-lent zero z e h i = e ∙ young-counts i
-  young-lent (suc k) z e h i = absurd (omega arith)
+  -- the counts of heap `own`'s barrier, and their sum
+  module _ (own : ℕ) {part : List ℕ} (r : Reads (λ h. counts (bar_of own h)) w part) where
+    pub counts_small : Image w (decode w) → sum part < 2 ^ 64
+    counts_small i = rw (← r.reads _ i) (counts-fit (bar_of own (decode w)) (bar-fit i own))
 
-  pub old-lent : (own : ℕ) {part : List ℕ} → (own ≡ 0 → ⊥) → part ≡ take 256 (drop old_counts_at w) → Lent w own part
-  unfolding bar_of
-  old-lent zero n e h i = absurd (n refl)
-  old-lent (suc k) n e h i = e ∙ old-counts i
-
-  bar-fit : (own : ℕ) → Image w (decode w) → FitBarrier (bar_of own (decode w))
-  unfolding bar_of
-  bar-fit zero i = i.fit.young.bar
-  bar-fit (suc k) i = i.fit.old.bar
-
-  pub lent-fit : (own : ℕ) {part : List ℕ} → Image w (decode w) → Lent w own part → sum part < 2 ^ 64
-  lent-fit own i l = rw (l (decode w) i) (counts-fit (bar_of own (decode w)) (bar-fit own i))
-
-  pub lent-sum : (own : ℕ) {part : List ℕ} {r : ℕ} → Lent w own part → r ≡ sum part → Reads (λ h. sum (counts (bar_of own h))) w r
-  lent-sum own l e = record { reads = λ h i. sym (e ∙ ap sum (l h i)) }
+    pub counts_sum : {k : ℕ} → k ≡ sum part → Reads (λ h. sum (counts (bar_of own h))) w k
+    counts_sum e = record { reads = λ h i. rw (r.reads h i) (sym e) }
 
   -- the nursery's lengths
   module _ {l : Layout} (p : Laid w l) where

@@ -14,7 +14,7 @@ ghost use Rattle.report.specs.Numbers.{young_numbers, old_numbers, numbers, repo
 
 use image::counts::MOST;
 use image::formed::Formed;
-use layout::places;
+use image::places;
 use question::Question;
 
 // References are the sum of a barrier's counts, free what is left of the cells.
@@ -79,12 +79,7 @@ fn young_allocations(image: Formed<'_>) -> u64
 fn references(image: Formed<'_>, own: u8) -> u64
     ensures { Reads (λ h. sum (counts (bar_of own h))) image.entry.words.now result }
 {
-    let counts = if own == 0 {
-        &image.words[image::layout::YOUNG_COUNTS..image::layout::OLD_COUNTS]
-    } else {
-        &image.words[image::layout::OLD_COUNTS..image::layout::LENGTHS]
-    };
-    words::sum(counts) as u64
+    words::sum(fields::counts_of(image, own)) as u64
 }
 
 fn young_numbers(image: Formed<'_>) -> Nursery
@@ -93,7 +88,7 @@ fn young_numbers(image: Formed<'_>) -> Nursery
     let h = fields::header_of(image);
     let collections = h.young_collections;
     let cells = h.cursor;
-    let free = h.n - cells;
+    let free = h.sizes.n - cells;
     let allocations = young_allocations(image);
     let references = references(image, 0);
     let promotions = h.promotions;

@@ -6,6 +6,7 @@ use Rattle.model.specs.Image.{decode}
 use Rattle.model.specs.Collector.{young_at}
 use Rattle.trace.specs.Words.{pointer}
 use Rattle.question.proofs.Passing.{refused_as}
+use Rattle.fields.proofs.Parts.{n-of}
 use Rattle.access.specs.Access.{place_answer}
 use Rattle.access.proofs.Answers.{young-inside}
 use Rattle.access.proofs.Writes.{left-refused, young-written, young-nowhere}
@@ -14,7 +15,7 @@ use Rattle.access.proofs.write_young.Goals.{After-index}
 
 found : (c : After-index) → place_answer c.index.result ≡ young_at (decode c.args.image.now) (pointer 0 c.args.base (of_z w64 c.args.offset))
 found c =
-    rw (to_z-of_z w64 c.args.offset c.ranges.offset) at (c.index.ensures (decode c.args.image.now) (c.header_of-n.ensures.n.reads _ c.requires.image))
+    rw (to_z-of_z w64 c.args.offset c.ranges.offset) at (c.index.ensures (decode c.args.image.now) ((n-of c.header_of-n.ensures.sizes).reads _ c.requires.image))
 
 pub store_young-requires : goal.store_young-requires
 store_young-requires c = record {

@@ -1,11 +1,11 @@
-use Rattle.collector.proofs.Asking.{scratch-bounds, scratch-is}
+use Rattle.collector.proofs.Asking.{scratch-bounds, few-roots}
 use Rattle.collector.proofs.scratch_for.Goals as goal
 
-pub scratch_length-requires : goal.scratch_length-requires
-scratch_length-requires c =
-    scratch-bounds c.args.image.formed c.header_of-h.ensures.n c.header_of-h.ensures.s c.header_of-h.ensures.c c.args.roots.now c.requires
+pub scratch_length-requires-clause-sizes : goal.scratch_length-requires-clause-sizes
+scratch_length-requires-clause-sizes c = scratch-bounds c.args.image.formed c.header_of.ensures.sizes
+
+pub scratch_length-requires-clause-roots : goal.scratch_length-requires-clause-roots
+scratch_length-requires-clause-roots c = few-roots c.args.roots.now c.requires
 
 pub returns : goal.returns
-returns c =
-    let i = c.args.image.formed in
-    scratch-is i c.header_of-h.ensures.n c.header_of-h.ensures.s c.header_of-h.ensures.c _ c.scratch_length.ensures
+returns c = rw (c.header_of.ensures.sizes.reads _ c.args.image.formed) c.scratch_length.ensures

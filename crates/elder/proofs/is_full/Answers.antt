@@ -1,5 +1,6 @@
 use borrow.Author.Rules.{rules}
 use Rattle.layout.proofs.Tail.{image-says-sized}
+use Rattle.fields.proofs.Parts.{t-of}
 use Rattle.elder.proofs.Lent.{full_is}
 use Rattle.elder.proofs.is_full.Goals as goal
 
@@ -7,4 +8,4 @@ pub layout_of-l-requires : goal.layout_of-l-requires
 layout_of-l-requires c = search (image-says-sized, rules)
 
 pub returns : goal.returns
-returns c = full_is c.layout_of-l.ensures c.header_of.ensures.t (rw c.slot_lengths.ensures at c.held-n.ensures)
+returns c = full_is c.layout_of-l.ensures (t-of c.header_of.ensures.sizes) (rw c.slot_lengths.ensures at c.held-n.ensures)

@@ -1,11 +1,8 @@
-use borrow.Author.Rules.{rules}
 use native.Mathlib.Omega.{arith}
+use borrow.Author.Rules.{rules}
 use Rattle.fields.proofs.Parts.{header-in}
 use Rattle.fields.proofs.Turned.{bump-room, bump-turns}
 use Rattle.fields.proofs.bump.Goals as goal
-
-pub overflow_add-image : goal.overflow_add-image
-overflow_add-image c = omega (arith, bump-room _ c.header_of-at.ensures.cursor c.requires.amount_nonzero.1 c.requires.image)
 
 pub offset_bounds-image-at : goal.offset_bounds-image-at
 offset_bounds-image-at c = omega (arith, bump-room _ c.header_of-at.ensures.cursor c.requires.amount_nonzero.1 c.requires.image)
@@ -16,5 +13,11 @@ bounds-image-at c = omega (arith, bump-room _ c.header_of-at.ensures.cursor c.re
 pub bounds-image-4 : goal.bounds-image-4
 bounds-image-4 c = search (header-in c.requires.image, rules)
 
+pub overflow_add-image : goal.overflow_add-image
+overflow_add-image c = omega (arith, bump-room _ c.header_of-at.ensures.cursor c.requires.amount_nonzero.1 c.requires.image)
+
 pub returns : goal.returns
-returns c = bump-turns _ c.header_of-at.ensures.cursor c.requires.amount_nonzero.1 c.requires.amount_nonzero.0
+returns c = record {
+  turns = bump-turns _ c.header_of-at.ensures.cursor c.requires.amount_nonzero.1 c.requires.amount_nonzero.0;
+  base = c.header_of-at.ensures.cursor;
+}

@@ -1,7 +1,11 @@
 use native.Mathlib.Omega.{arith}
 use Rattle.fields.proofs.Parts.{sized-in, n-is}
 use Rattle.fields.proofs.Turned.{cell_room, cell-put}
+use Rattle.fields.proofs.Parts.{sized-in}
 use Rattle.fields.proofs.put_young_cell.Goals as goal
+
+pub layout_of-l-requires : goal.layout_of-l-requires
+layout_of-l-requires c = sized-in c.requires.image
 
 pub overflow_mul-i : goal.overflow_mul-i
 overflow_mul-i c =
@@ -11,9 +15,9 @@ overflow_mul-i c =
 pub copy_words-requires : goal.copy_words-requires
 copy_words-requires c =
     let pre = c.requires in
-    omega (arith, cell_room _ c.young_part-part.ensures c.args.i pre.i_bound pre.image, pre.cell_len.0)
+    omega (arith, cell_room c.layout_of-l.ensures c.args.i pre.i_bound pre.image, pre.cell_len.0)
 
 pub returns : goal.returns
 returns c =
     let pre = c.requires in
-    cell-put _ c.young_part-part.ensures c.args.i pre.i_bound _ pre.cell_len.0 pre.cell_len.1 c.copy_words.ensures
+    cell-put c.layout_of-l.ensures c.args.i pre.i_bound _ pre.cell_len.0 pre.cell_len.1 c.copy_words.ensures

@@ -1,6 +1,6 @@
 use Rattle.std.proofs.Common.{Ok, ap, sym, ◌∙◌}
 use Rattle.question.proofs.Passing.{refused_as}
-use Rattle.cycle.proofs.Giving.{placed, give-new, give-move, give-young, new-asked}
+use Rattle.cycle.proofs.Giving.{placed, bump_gives, give-new, give-move, give-young, new-asked}
 use Rattle.cycle.proofs.turns.give_in.Goals as goal
 
 pub returns-in_err-place-in-New : goal.returns-in_err-place-in-New
@@ -19,7 +19,7 @@ bump-requires c = record {
 }
 
 pub returns-else-left-eq1 : goal.returns-else-left-eq1
-returns-else-left-eq1 c = give-young _ _ _ _ c.in-New.is c.if-left-eq1.false c.bump.ensures
+returns-else-left-eq1 c = give-young _ _ _ _ c.in-New.is c.if-left-eq1.false (bump_gives _ _ c.bump.ensures.base c.bump.ensures.turns c.at-in-New.ensures)
 
 pub returns-in_err-place_part-in-Move : goal.returns-in_err-place_part-in-Move
 returns-in_err-place_part-in-Move c =

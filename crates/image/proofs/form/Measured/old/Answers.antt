@@ -3,4 +3,4 @@ use Rattle.image.proofs.form.Measured.old.Goals as goal
 
 pub returns : goal.returns
 returns c =
-    old-done c.args.self.words.now _ _ _ _ c.args.self.sized c.slot_lengths-from.ensures c.young_cells-to.ensures c.old_cells-at.ensures c.sum_to-k.ensures c.packed.ensures
+    old-done c.args.self.words.now c.layout_of-l.ensures c.slot_lengths.ensures c.elder_cells.ensures c.sum_to-k.ensures c.packed.ensures

@@ -2,7 +2,7 @@
 use Rattle.std.specs.Prelude.{◌≡◌, List, ℕ, ◌+◌, ◌*◌, length, take, drop}
 use Rattle.model.specs.Barrier.{cache}
 use Rattle.model.specs.Image.{Regions, sizes_of, regions}
-use Rattle.layout.specs.declared.places.Layout.{Layout}
+use Rattle.image.specs.declared.places.Layout.{Layout}
 
 unfoldable pub regions_at : Layout → List ℕ → Regions
 regions_at l w = record {
