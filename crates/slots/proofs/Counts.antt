@@ -167,4 +167,4 @@ hole-sum-fits l b h = omega (arith, sum-front l b)
 pub hole-old-fits : (l : List ℕ) (b : ℕ) → sum l * 3 < 2 ^ 64 → Fits w64 (3 * get_or l b 0)
 hole-old-fits l b h = omega (arith, sum-within l b)
 
-pub ruleset counts = (front_fits, count-begin, count-done, packed-fits, read_out, read_past, read_fits, read-room, read_cell, lens-count, lens-below, lens-fits, lens-fits-1, hole-fits, hole-sum-fits, hole-old-fits)
+pub ruleset counts = (front_fits, count-begin, packed-fits, lens-count, lens-below, lens-fits, lens-fits-1, hole-fits, hole-sum-fits, hole-old-fits)

@@ -253,4 +253,4 @@ module _ {m : Ptr × ℕ} {w₀ w : List ℕ} {hits i : ℕ} (x : Swapping m w�
         x.count ∙ ap (λ (l : List Cell). length (keep_if (holds m.0) l)) taken,
       )
 
-pub ruleset swaps = (swap-begin, swap-whole, swap-room)
+pub ruleset swaps = (swap-whole, swap-room)

@@ -41,6 +41,7 @@ pub fn held(lens: &[u64]) -> usize
 // ---- A cell is read or written
 
 // The cell at (base, offset), if there is one.
+#[tactic(auto, using(crate::proofs::Counts::counts))]
 pub fn read_old(lens: &[u64], cells: &[u64], base: u64, offset: u64) -> Option<Words>
     requires { Packed lens.now cells.now (slots_of lens.now cells.now) }
     ensures { ReadBy (read_old (slots_of lens.now cells.now) base offset) result }

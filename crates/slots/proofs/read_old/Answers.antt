@@ -1,5 +1,5 @@
 use borrow.Author.Rules.{rules}
-use Rattle.slots.proofs.Counts.{counts, read_out, read_past, read_fits, read-room, read_cell}
+use Rattle.slots.proofs.Counts.{read_out, read_past, read_fits, read-room, read_cell}
 use Rattle.slots.proofs.read_old.Goals as goal
 
 pub returns-in_err-get : goal.returns-in_err-get
@@ -7,9 +7,6 @@ returns-in_err-get c = read_out c.requires _ _ c.in_err-get.ensures.lookup.3 c.f
 
 pub returns-then-branch-offset : goal.returns-then-branch-offset
 returns-then-branch-offset c = read_past c.requires _ _ c.in_ok-get.ensures.lookup.3 (search rules)
-
-pub sum-requires : goal.sum-requires
-sum-requires c = search (counts, rules)
 
 pub overflow_add-sum : goal.overflow_add-sum
 overflow_add-sum c = read_fits c.requires _ _ c.in_ok-get.ensures.lookup.3 (search rules) c.sum.result c.sum.ensures (search rules)
