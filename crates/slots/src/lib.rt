@@ -78,7 +78,7 @@ pub struct Move {
 }
 
 impl Move {
-    // What a cell holds that is the pointer, before and after.
+    // The value of a cell that holds the pointer.
     #[tactic(auto, using(crate::proofs::Swaps::moves))]
     pub fn was(self) -> Value
         ensures { value_cell result ≡ ref (move_of self).0 }
@@ -90,6 +90,7 @@ impl Move {
         })
     }
 
+    // And what it becomes.
     #[tactic(auto, unfolding(model::specs::Collector::moved_to, model::specs::Records::whole, value::specs::Value::value_cell))]
     pub fn becomes(self) -> Value
         ensures { value_cell result ≡ ref (moved_to (move_of self)) }
