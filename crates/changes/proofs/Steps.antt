@@ -50,3 +50,5 @@ module _ (k : ℕ) (f : Barrier → Res Barrier) (i : ℕ) (b : Barrier) (z : Re
 
     pub times-refused : (q : Question) → r ≡ Err q → refuse (number q) ≡ z
     times-refused q out = then-refused _ (times (k - (i + 1)) f) r e q out ∙ parted
+
+pub ruleset laws = (times_none, times-less)

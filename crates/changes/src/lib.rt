@@ -21,6 +21,7 @@ pub fn count_change(own: u8, moved: Move, barrier: WriteBarrier) -> Result<Write
 }
 
 // All k of them; the first refusal ends it.
+#[tactic(auto, using(crate::proofs::Steps::laws))]
 pub fn count_changes(
     k: usize,
     own: u8,

@@ -196,8 +196,7 @@ fn pack_one(w: &mut [u64], at: usize, b: usize, ends: Ends, members: &[u64]) -> 
     ensures src_value { (result.src ≡ ends.src + get_or w.old b 0 * 3) × (result.dst ≡ stepped_to (keeps (listed members.now) b) ends.dst (get_or w.old b 0 * 3)) }
 {
     let n = 3 * w[b] as usize;
-    let src = ends.src;
-    let dst = ends.dst;
+    let Ends { src, dst } = ends;
     if n == 0 {
         return ends;
     }
