@@ -2,13 +2,12 @@
 use mathlib.Core.Path.{◌≡◌, refl}
 use mathlib.Core.Bool.{Bool, true, false, ◌&&◌}
 use mathlib.Core.List.{List, [], ◌∷◌}
-use Prim.Native.Nat.{ℕ, zero, suc, ◌+◌, ◌≤◌, ◌<◌, ◌*◌, ◌/◌, ◌%◌, min}
+use Prim.Native.Nat.{ℕ, zero, suc, ◌+◌, ◌-◌, ◌≤◌, ◌<◌, ◌*◌, ◌/◌, ◌%◌, min}
 use native.Mathlib.Numerals.{add-one}
 use native.Mathlib.Omega.{arith}
 use lib.Dec.{eqb}
-use lib.ListN.{length, get_or, drop}
+use lib.ListN.{length, get_or, drop, drop_of_length-le}
 use lib.Seq.{drop-cons}
-use Rattle.std.specs.List.{fold}
 use Rattle.std.specs.Simd.{first_chunks}
 use Rattle.model.specs.Lists.{sum, all_at_most}
 use Rattle.model.specs.Records.{valid_words, whole_cells}
@@ -70,12 +69,29 @@ cut (suc k) r (a ∷ b ∷ o ∷ w) h l = rw (cut k r w (omega arith) l) (and-tu
 pub whole-cut : (w : List ℕ) → whole_cells w ≡ (eqb (length w % 3) 0 && valid_cells (first_chunks 3 (length w / 3) w))
 whole-cut w = cut (length w / 3) (length w % 3) w (omega arith) (omega arith)
 
--- a sum of words that stops at the largest
+-- a sum, of which `left` is still allowed
 
-abbrev pub most_of_word : ℕ
-most_of_word = 0xFFFF_FFFF_FFFF_FFFF
+pub record Summing (w : List ℕ) (limit left i : ℕ) : Type 0 where
+  pub within : i ≤ length w
+  pub low : left ≤ limit
+  pub is : sum w + left ≡ limit + sum (drop i w)
 
-pub capped-sum : (n : ℕ) (xs : List ℕ) → n ≤ most_of_word → fold (λ a x. min (a + x) most_of_word) n xs ≡ min (n + sum xs) most_of_word
-unfolding sum
-capped-sum n [] h = omega arith
-capped-sum n (x ∷ xs) h = omega (arith, capped-sum (min (n + x) most_of_word) xs (omega arith))
+pub sum-begin : (w : List ℕ) (limit : ℕ) → Summing w limit limit 0
+sum-begin w limit = record { within = omega arith; low = omega arith; is = omega arith }
+
+module _ {w : List ℕ} {limit left i : ℕ} (v : Summing w limit left i) where
+  sum_step : i < length w → sum w + left ≡ limit + (get_or w i 0 + sum (drop (i + 1) w))
+  unfolding sum
+  sum_step h = rw (word_at w i h) at v.is
+
+  pub sum-turn : i < length w → get_or w i 0 < left → Summing w limit (left - get_or w i 0) (i + 1)
+  sum-turn h k = record { within = omega arith; low = omega (arith, v.low); is = omega (arith, sum_step h) }
+
+  pub sum-stop : i < length w → left ≤ get_or w i 0 → limit ≡ min (sum w) limit
+  sum-stop h k = omega (arith, sum_step h, v.low)
+
+  pub sum_done : length w ≤ i → limit - left ≡ min (sum w) limit
+  unfolding sum
+  sum_done h = let e : sum w + left ≡ limit + 0 = rw (drop_of_length-le w {i = i} h) at v.is in omega (arith, v.low)
+
+pub ruleset laws = (sum-begin, sum-turn, sum-stop, sum_done)
