@@ -3,7 +3,7 @@
 ghost use Rattle.std.specs.Prelude.{◌≡◌, ◌≤◌, length};
 ghost use Rattle.model.specs.Image.{sizes_of, image_length};
 ghost use Rattle.model.specs.Calls.{scratch_length};
-ghost use Rattle.image.specs.Places.{model_sizes, slot_lengths_at, young_cells_at, old_cells_at, Bounded};
+ghost use Rattle.image.specs.Places.{model_sizes, slot_lengths_at, young_cells_at, old_cells_at};
 
 use super::sizes::Sizes;
 
@@ -57,7 +57,7 @@ impl Sizes {
 
     // Where the elder's lengths begin.
     pub fn slot_lengths(self) -> usize
-        requires { Bounded (model_sizes self) }
+        requires { self.n ≤ 2048 }
         ensures { result ≡ slot_lengths_at self.n }
     {
         LENGTHS + self.n as usize
@@ -65,7 +65,7 @@ impl Sizes {
 
     // Where the nursery's cells begin.
     pub fn young_cells(self) -> usize
-        requires { Bounded (model_sizes self) }
+        requires { (self.n ≤ 2048) × (self.s ≤ 8192) }
         ensures { result ≡ young_cells_at self.n self.s }
     {
         self.slot_lengths() + self.s as usize
@@ -73,7 +73,7 @@ impl Sizes {
 
     // Where the elder's cells begin.
     pub fn old_cells(self) -> usize
-        requires { Bounded (model_sizes self) }
+        requires { (self.n ≤ 2048) × (self.s ≤ 8192) }
         ensures { result ≡ old_cells_at self.n self.s }
     {
         self.young_cells() + 3 * self.n as usize
@@ -82,7 +82,7 @@ impl Sizes {
     // The image's length.
     #[tactic(auto, unfolding(model::specs::Image::image_length))]
     pub fn image_length(self) -> usize
-        requires { Bounded (model_sizes self) }
+        requires { (self.n ≤ 2048) × (self.s ≤ 8192) × (self.c ≤ 65536) }
         ensures { result ≡ image_length (model_sizes self) }
     {
         self.old_cells() + 3 * self.c as usize
@@ -91,8 +91,7 @@ impl Sizes {
     // The words of scratch for r root cells: the image, four for each young member and three for each old one.
     #[tactic(auto, unfolding(model::specs::Image::image_length, model::specs::Calls::scratch_length))]
     pub fn scratch_length(self, r: usize) -> usize
-        requires sizes { Bounded (model_sizes self) }
-        requires roots { r ≤ 4096 }
+        requires { (self.n ≤ 2048) × (self.s ≤ 8192) × (self.c ≤ 65536) × (r ≤ 4096) }
         ensures { result ≡ scratch_length (model_sizes self) r }
     {
         let young = r + 2 * self.n as usize;
