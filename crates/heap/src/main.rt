@@ -71,6 +71,7 @@ fn write_more(rt: &HostRuntime, bytes: &[u8], len: &mut usize) -> io::Result<()>
 
 // The file's listing, by the bufferful; how many bytes were handed on, also when a write failed. It ends where the run stands at the
 // file's end; an iterator of bufferfuls could not lend `out` anew at each turn.
+#[tactic(auto, unfolding(theorems::specs::Program::program_words, theorems::specs::Program::program_scratch, model::specs::Image::image_length, model::specs::Calls::scratch_length))]
 fn print_all(rt: &HostRuntime, file: &[u8], len: &mut usize) -> io::Result<()>
     requires { length file.now ≤ longest_file + 1 }
     ensures { MatchResult result (λ _. Prints file.now len.new true) (λ _. Prints file.now len.new false) }
@@ -87,6 +88,7 @@ fn print_all(rt: &HostRuntime, file: &[u8], len: &mut usize) -> io::Result<()>
     Ok(())
 }
 
+#[tactic(auto, unfolding(model::specs::Listing::longest_file))]
 fn main(rt: HostRuntime) {
     let mut file = [0u8; FILE];
     match read_all(&rt, &mut file) {

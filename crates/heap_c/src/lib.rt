@@ -241,6 +241,7 @@ pub extern "C" fn heap_report_formed(image: &mut [u64], out: &mut [u64; 11]) -> 
 impl Words<2> for Figure {
     ghost words = { λ f. figure_words (model_figure f) };
 
+    #[tactic(auto, unfolding(crate::specs::Replies::figure_words))]
     fn to_words(self) -> [u64; 2] {
         [
             u64::from(self.thousandths < 0),

@@ -110,6 +110,7 @@ fn refusal_text(q: u64, t: &mut Text<'_>)
     t.spaced(q);
 }
 
+#[tactic(auto, unfolding(model::specs::Listing::line_text, model::specs::Listing::new_word, model::specs::Listing::set_word, model::specs::Listing::store_word))]
 fn text(answer: Result<Answer, Question>, t: &mut Text<'_>)
     requires { Room longest_text t.old }
     ensures { Writes (line_text (answer_line answer)) t.old t.new }

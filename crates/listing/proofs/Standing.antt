@@ -93,3 +93,5 @@ module _ (file : List ℕ) (at : ℕ) (h : at < length file) where
 
   pub registers-below-16 : {c : Command} {k : ℕ} → ok (some (c, k)) ≡ stands_at file at → all_at_most 15 (registers_of c) ≡ true
   registers-below-16 e = registers-below (drop at file) (stood e).0.parsed
+
+pub ruleset lengths = (stands-short, stands-long, stands-end)

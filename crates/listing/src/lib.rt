@@ -42,6 +42,7 @@ pub fn begin() -> Run
 }
 
 // In a file that is too long nothing is a command.
+#[tactic(auto, using(crate::proofs::Standing::lengths), unfolding(model::specs::Listing::longest_file))]
 fn stands_at(file: &[u8], at: usize) -> Option<Result<(Command, usize), Question>>
     ensures { next_answer result ≡ stands_at file.now at }
 {

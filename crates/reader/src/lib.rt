@@ -161,7 +161,8 @@ impl Opcode {
 // The last of the sixteen registers.
 const LAST: u8 = 15;
 
-// Is each register one of the sixteen?
+// Is each register one of the sixteen? One test of all of them: a type for a register would be made, and could be refused, at five places
+// of `command`, and each that uses one would take the number out again.
 fn registers_hold(command: Command) -> bool
     ensures { result ≡ all_at_most 15 (registers_of (model_command command)) }
 {

@@ -47,6 +47,7 @@ pub struct Statistics {
 impl From<Statistics> for [u64; 11] {
     ghost from_gives = { λ s words. words ≡ numbers s };
 
+    #[tactic(auto, unfolding(crate::specs::Numbers::numbers))]
     fn from(s: Statistics) -> [u64; 11] {
         let y = s.nursery;
         let e = s.elder;

@@ -1,4 +1,3 @@
-use Rattle.question.proofs.Passing.{refused_as}
 use Rattle.image.proofs.Opened.{formed-image}
 use Rattle.report.proofs.Doors.{as-formed, unformed}
 use Rattle.report.proofs.Filling.{fills-as, not-filled}
@@ -12,5 +11,4 @@ pub returns : goal.returns
 returns c = fills-as (as-formed _ c.check.ensures c.in_ok-check.was) c.report_into_formed.ensures
 
 pub returns-in_err-check : goal.returns-in_err-check
-returns-in_err-check c =
-    rw (refused_as c.from_residual.result _ c.from_residual.ensures.1) (not-filled (unformed _ c.check.ensures _ c.in_err-check.was) refl)
+returns-in_err-check c = not-filled (unformed _ c.check.ensures _ c.in_err-check.was) refl c.from_residual.ensures.1

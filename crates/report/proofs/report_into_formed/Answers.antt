@@ -1,4 +1,3 @@
-use Rattle.question.proofs.Passing.{refused_as}
 use Rattle.report.proofs.Filling.{filled, not-filled}
 use Rattle.report.proofs.report_into_formed.Goals as goal
 
@@ -6,5 +5,4 @@ pub returns : goal.returns
 returns c = filled c.report_formed.ensures c.in_ok-lent.was
 
 pub returns-in_err-lent : goal.returns-in_err-lent
-returns-in_err-lent c =
-    rw (refused_as c.from_residual.result _ c.from_residual.ensures.1) (not-filled c.report_formed.ensures c.in_err-lent.was)
+returns-in_err-lent c = not-filled c.report_formed.ensures c.in_err-lent.was c.from_residual.ensures.1

@@ -1,4 +1,3 @@
-use Rattle.question.proofs.Passing.{refused_as}
 use Rattle.report.proofs.Filling.{taken, refused}
 use Rattle.report.proofs.report_lent.Goals as goal
 
@@ -6,5 +5,4 @@ pub returns : goal.returns
 returns c = taken c.report_into.ensures c.in_ok-report_into.was
 
 pub returns-in_err-report_into : goal.returns-in_err-report_into
-returns-in_err-report_into c =
-    rw (refused_as c.from_residual.result _ c.from_residual.ensures.1) (refused c.report_into.ensures c.in_err-report_into.was)
+returns-in_err-report_into c = refused c.from_residual.result c.report_into.ensures c.in_err-report_into.was c.from_residual.ensures.1

@@ -1,4 +1,3 @@
-use Rattle.question.proofs.Passing.{refused_as}
 use Rattle.report.proofs.Filling.{taken, refused}
 use Rattle.report.proofs.report_lent_formed.Goals as goal
 
@@ -6,5 +5,4 @@ pub returns : goal.returns
 returns c = taken c.report_into_formed.ensures c.in_ok-report_into_formed.was
 
 pub returns-in_err-report_into_formed : goal.returns-in_err-report_into_formed
-returns-in_err-report_into_formed c =
-    rw (refused_as c.from_residual.result _ c.from_residual.ensures.1) (refused c.report_into_formed.ensures c.in_err-report_into_formed.was)
+returns-in_err-report_into_formed c = refused c.from_residual.result c.report_into_formed.ensures c.in_err-report_into_formed.was c.from_residual.ensures.1
