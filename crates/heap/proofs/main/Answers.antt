@@ -1,12 +1,7 @@
 use native.Mathlib.Omega.{arith}
 use lib.Seq.{length-take-le}
 use Rattle.model.specs.Listing.{longest_file}
-use borrow.Author.Rules.{rules}
 use Rattle.heap.proofs.main.Goals as goal
-
-pub read_all-requires : goal.read_all-requires
-unfolding longest_file
-read_all-requires c = search rules
 
 pub print_all-requires : goal.print_all-requires
 unfolding longest_file

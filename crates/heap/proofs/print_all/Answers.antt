@@ -1,21 +1,10 @@
 use mathlib.Core.Path.{refl}
-use Rattle.model.specs.Image.{image_length}
-use Rattle.model.specs.Calls.{scratch_length}
-use Rattle.theorems.specs.Program.{program_words, program_scratch}
 use Rattle.heap.proofs.Printing.{print-none, print-fits, print-done}
 use borrow.Author.Rules.{rules}
 use Rattle.heap.proofs.print_all.Goals as goal
 
 pub loop-run-init : goal.loop-run-init
 loop-run-init c = (print-none (c.begin-run.ensures _ _) refl, search rules, search rules, search rules)
-
-pub fill-used-requires : goal.fill-used-requires
-unfolding program_words program_scratch image_length scratch_length
-fill-used-requires c = record {
-  going = c.loop-run.invariant.0.going;
-  program_words_in_bounds = (search rules, search rules);
-  longest_line_in_bounds = search rules;
-}
 
 pub write_more-requires : goal.write_more-requires
 write_more-requires c =
