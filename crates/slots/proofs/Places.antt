@@ -131,9 +131,14 @@ module _ {s at : ℕ} {w : List ℕ} (v : Elder s at w (slots_at s at w)) (b i j
   pub source-room : k - j + length (filling src) ≤ length (lent at w)
   source-room = place-room v b i j k ei ej ek h (count_of src) r (length (filling src)) (omega (arith, ap length (source-words src), words-length (cells_from src), source-count src))
 
-  pub source-placed : {n : ℕ} → n ≡ count_of src → {ys : List ℕ} → ys ≡ padded (take i (lent at w) ++ (filling src ++ take (k - (i + j)) (drop (i + j) (lent at w)))) (length (lent at w))
-      → Changed s at w (set (returned at w ys) b n) (set (slots_at s at w) b (cells_from src))
-  source-placed q e =
-      rw q (place-done v b i j k ei ej ek h (count_of src) r (cells_from src) (source-valid src) (source-count src) (rw (source-words src) at e))
+  -- the words that are handed on are the source's
+  module _ {f : List ℕ} (e : f ≡ filling src) where
+    pub handed-room : k - j + length f ≤ length (lent at w)
+    handed-room = rw e source-room
 
-pub ruleset placed = (place-used, source-room, place-zeros, source-placed)
+    pub source-placed : {n : ℕ} → n ≡ count_of src → {ys : List ℕ} → ys ≡ padded (take i (lent at w) ++ (f ++ take (k - (i + j)) (drop (i + j) (lent at w)))) (length (lent at w))
+        → Changed s at w (set (returned at w ys) b n) (set (slots_at s at w) b (cells_from src))
+    source-placed q p =
+        rw q (place-done v b i j k ei ej ek h (count_of src) r (cells_from src) (source-valid src) (source-count src) (rw (e ∙ source-words src) at p))
+
+pub ruleset placed = (place-used, source-room, handed-room, place-zeros, source-placed)

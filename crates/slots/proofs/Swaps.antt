@@ -17,7 +17,7 @@ use lib.IntN.{ℤ}
 use lib.ListN.{length, get_or, set, take, drop}
 use lib.Seq.{paste, set-get_or, take-length, drop-length}
 use Rattle.model.specs.Lists.{cons_if, keep_if}
-use Rattle.model.specs.Records.{Ptr, Cell, plain, ref, blank, cell_words, valid, all_valid, whole_cells, whole}
+use Rattle.model.specs.Records.{Ptr, Cell, plain, ref, blank, cell_words, valid, all_valid, whole_cells}
 use Rattle.model.specs.Collector.{moved_to, holds, swap_cell}
 use Rattle.model.specs.Calls.{cells_in}
 use Rattle.theorems.proofs.Barrier.{bit}
@@ -164,8 +164,8 @@ module _ {A : Type 0} (f : A → A) (d : A) where
   front-next : (cs : List A) (i : ℕ) → i < length cs → set (front f i cs) i (f (get_or cs i d)) ≡ front f (suc i) cs
   unfolding front
   front-next [] i h = absurd (not-suc-le-zero h)
-  front-next (c ∷ cs) zero h = refl
-  front-next (c ∷ cs) (suc i) h = ap (λ (r : List A). f c ∷ r) (front-next cs i (le_of_suc-le-suc h))
+  front-next (c ∷ ds) zero h = refl
+  front-next (c ∷ cs) (suc i) h = ap (λ (r : List A). f c ∷ r) (front-next ds i (le_of_suc-le-suc h))
 
 front-valid : (m : Ptr × ℕ) (cs : List Cell) (i : ℕ) → all_valid cs ≡ true → all_valid (front (swap_cell m) i cs) ≡ true
 unfolding front

@@ -174,7 +174,7 @@ pub fn place(w: &mut [u64], s: usize, at: usize, b: usize, src: Source<'_>)
     ensures { Changed s at w.old w.new (set (slots_at s at w.old) b (cells_from src.entry)) }
 {
     let hole = hole_of(&w[..s], b);
-    words::splice(&mut w[at..], hole, src);
+    words::splice(&mut w[at..], hole, src.words());
     w[b] = src.count() as u64;
 }
 

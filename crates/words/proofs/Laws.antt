@@ -1,5 +1,5 @@
 -- Laws of `paste` and `padded`.
-use Prim.Native.Nat.{ℕ, zero, suc, ◌+◌, ◌-◌, ◌*◌, ◌≤◌}
+use Prim.Native.Nat.{ℕ, zero, suc, ◌+◌, ◌-◌, ◌≤◌}
 use mathlib.Core.Path.{◌≡◌, refl, sym, ap, ◌∙◌}
 use mathlib.Core.List.{List, ◌++◌, append_assoc}
 use native.Mathlib.Nat.{sub-zero}
@@ -8,11 +8,11 @@ use lib.ListN.{length, take, drop, length-append, length-drop, replicate, length
 use lib.Seq.{paste, take-paste, drop-paste, drop-drop, take_all, take-take, take-append-le, length-take-le, drop_at}
 use borrow.Rule.Slice.PartMut.{put_mid}
 use Rattle.std.proofs.lemmas.Slice.{put_mid-paste}
+use Rattle.std.proofs.Common.{Bor}
 use Rattle.words.specs.Words.{padded}
-use Rattle.words.specs.Source.{filling}
-use Rattle.words.specs.declared.Source.{Source}
-use Rattle.words.specs.declared.Source.TheVariants.{Blank, Given}
-use Rattle.words.specs.declared.cells.Cells.{Cells}
+use Rattle.words.specs.Filling.{filled}
+use Rattle.words.specs.declared.Filling.{Filling}
+use Rattle.words.specs.declared.Filling.TheVariants.{Zeros, Given}
 
 -- past what was pasted, and before it, nothing changes
 module _ (d : List ℕ) (at : ℕ) (s : List ℕ) (n : ℕ) (h : at ≤ length d) where
@@ -102,14 +102,16 @@ module _ (at old used new : ℕ) (w : List ℕ) (h : (at + old ≤ used) × (use
       ∙ ap (λ (j : ℕ). (take at w ++ (s ++ behind)) ++ replicate (length w - j) 0) e
 
 -- `splice`
-module _ (at old used : ℕ) (w : List ℕ) (src : Source) (h : (at + old ≤ used) × (used ≤ length w) × (used - old + length (filling src) ≤ length w)) (new : ℕ) (e : new ≡ length (filling src)) {v : List ℕ} (p : v ≡ padded (take (at + new) w ++ rest_of (at + old) used w) (length w)) {u : List ℕ} where
-  replaced-by : (s : List ℕ) → filling src ≡ s → u ≡ paste v at s new → u ≡ padded (take at w ++ (filling src ++ rest_of (at + old) used w)) (length w)
-  replaced-by s f q = spliced at old used new w (h.0, h.1, rw e h.2) (filling src) (sym e) p (q ∙ ap (λ (r : List ℕ). paste v at r new) (sym f))
+module _ (at old used : ℕ) (w : List ℕ) (new : Filling) (h : (at + old ≤ used) × (used ≤ length w) × (used - old + length (filled new) ≤ length w)) (n : ℕ) (e : n ≡ length (filled new)) {v : List ℕ} (p : v ≡ padded (take (at + n) w ++ rest_of (at + old) used w) (length w)) {u : List ℕ} where
+  replaced-by : (s : List ℕ) → filled new ≡ s → u ≡ paste v at s (length s) → u ≡ padded (take at w ++ (filled new ++ rest_of (at + old) used w)) (length w)
+  replaced-by s f q =
+      let l : length s ≡ n = sym (e ∙ ap length f) in
+      spliced at old used n w (h.0, h.1, rw e h.2) (filled new) (sym e) p (q ∙ ap (paste v at s) l ∙ ap (λ (r : List ℕ). paste v at r n) (sym f))
 
-  pub spliced-blank : (n : ℕ) → src ≡ Blank n → u ≡ paste v at (replicate new 0) new → u ≡ padded (take at w ++ (filling src ++ rest_of (at + old) used w)) (length w)
-  spliced-blank n f = replaced-by (replicate new 0) (ap filling f ∙ ap (λ (k : ℕ). replicate k 0) (sym (e ∙ ap (λ (r : Source). length (filling r)) f ∙ length-replicate {A = ℕ} (3 * n) 0)))
+  pub spliced-zeros : (k : ℕ) → new ≡ Zeros k → u ≡ paste v at (replicate k 0) k → u ≡ padded (take at w ++ (filled new ++ rest_of (at + old) used w)) (length w)
+  spliced-zeros k f q = replaced-by (replicate k 0) (ap filled f) (q ∙ ap (paste v at (replicate k 0)) (sym (length-replicate {A = ℕ} k 0)))
 
-  pub spliced-given : (s : Cells) → src ≡ Given s → u ≡ paste v at s.words.now (length s.words.now) → u ≡ padded (take at w ++ (filling src ++ rest_of (at + old) used w)) (length w)
-  spliced-given s f q = replaced-by s.words.now (ap filling f) (q ∙ ap (paste v at s.words.now) (sym (e ∙ ap (λ (r : Source). length (filling r)) f)))
+  pub spliced-given : (s : Bor (List ℕ)) → new ≡ Given s → u ≡ paste v at s.now (length s.now) → u ≡ padded (take at w ++ (filled new ++ rest_of (at + old) used w)) (length w)
+  spliced-given s f = replaced-by s.now (ap filled f)
 
-pub ruleset laws = (zeros-filled, opened, spliced-blank, spliced-given)
+pub ruleset laws = (zeros-filled, opened, spliced-zeros, spliced-given)

@@ -8,6 +8,7 @@ ghost use Rattle.std.specs.Prelude.{◌≡◌, ◌++◌, ◌+◌, ◌-◌, ◌^�
 ghost use Rattle.std.proofs.Math.Seq.{paste};
 ghost use Rattle.model.specs.Lists.{sum};
 ghost use Rattle.words.specs.Words.{padded};
+ghost use Rattle.words.specs.Filling.{filled};
 ghost use Rattle.words.specs.Source.{filling, count_of};
 
 use cells::Cells;
@@ -71,6 +72,38 @@ fn open_place(w: &mut [u64], hole: Hole, new: usize)
     zero_words(w, end, hole.used.saturating_sub(end));
 }
 
+// New words: so many zeros, or these.
+#[derive(Clone, Copy)]
+pub enum Filling<'a> {
+    Zeros(usize),
+    Given(&'a [u64]),
+}
+
+impl Filling<'_> {
+    fn len(self) -> usize
+        ensures { result ≡ length (filled self.entry) }
+    {
+        match self {
+            Filling::Zeros(n) => n,
+            Filling::Given(words) => words.len(),
+        }
+    }
+}
+
+// The old words are replaced by new ones.
+#[tactic(auto, using(crate::proofs::Laws::laws))]
+pub fn splice(w: &mut [u64], hole: Hole, new: Filling<'_>)
+    requires bound { (hole.used ≤ length w.old) × (hole.used - hole.old + length (filled new) ≤ length w.old) }
+    requires w_value { drop hole.used w.old ≡ replicate (length w.old - hole.used) 0 }
+    ensures { w.new ≡ padded (take hole.at w.old ++ (filled new.entry ++ take (hole.used - (hole.at + hole.old)) (drop (hole.at + hole.old) w.old))) (length w.old) }
+{
+    open_place(w, hole, new.len());
+    match new {
+        Filling::Zeros(n) => zero_words(w, hole.at, n),
+        Filling::Given(words) => copy_words(w, hole.at, words),
+    }
+}
+
 // Cells that come to a place: so many Uninitialized ones, whose words are 0, or these.
 #[derive(Clone, Copy)]
 pub enum Source<'a> {
@@ -78,7 +111,7 @@ pub enum Source<'a> {
     Given(Cells<'a>),
 }
 
-impl Source<'_> {
+impl<'a> Source<'a> {
     // How many cells they are.
     pub fn count(self) -> usize
         ensures { result ≡ count_of self.entry }
@@ -89,34 +122,19 @@ impl Source<'_> {
         }
     }
 
-    // How many words.
-    fn len(self) -> usize
+    // Their words.
+    pub fn words(self) -> Filling<'a>
         requires { length (filling self) < 2 ^ 64 }
-        ensures { result ≡ length (filling self.entry) }
+        ensures { filled result ≡ filling self.entry }
     {
         match self {
-            Source::Blank(n) => 3 * n,
-            Source::Given(cells) => cells.words.len(),
+            Source::Blank(n) => Filling::Zeros(3 * n),
+            Source::Given(cells) => Filling::Given(cells.words),
         }
     }
 }
 
-// The old words are replaced by src's.
-#[tactic(auto, using(crate::proofs::Laws::laws))]
-pub fn splice(w: &mut [u64], hole: Hole, src: Source<'_>)
-    requires bound { (hole.used ≤ length w.old) × (hole.used - hole.old + length (filling src) ≤ length w.old) }
-    requires w_value { drop hole.used w.old ≡ replicate (length w.old - hole.used) 0 }
-    ensures { w.new ≡ padded (take hole.at w.old ++ (filling src.entry ++ take (hole.used - (hole.at + hole.old)) (drop (hole.at + hole.old) w.old))) (length w.old) }
-{
-    let new = src.len();
-    open_place(w, hole, new);
-    match src {
-        Source::Blank(_) => zero_words(w, hole.at, new),
-        Source::Given(cells) => copy_words(w, hole.at, cells.words),
-    }
-}
-
-// The sum of words. Every access to the elder runs this loop: it only adds, so that it can be done many at a time.
+// The sum of words. Every access to the elder makes it: it only adds, so that it can be done many at a time.
 pub fn sum(w: &[u64]) -> usize
     requires { sum w.now < 2 ^ 64 }
     ensures { result ≡ sum w.now }
