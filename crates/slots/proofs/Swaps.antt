@@ -155,17 +155,17 @@ unfoldable pub front : {A : Type 0} → (A → A) → ℕ → List A → List A
 front f i cs = map f (take i cs) ++ drop i cs
 
 module _ {A : Type 0} (f : A → A) (d : A) where
-  front-get : (cs : List A) (i : ℕ) → get_or (front f i cs) i d ≡ get_or cs i d
+  front-get : (ds : List A) (i : ℕ) → get_or (front f i ds) i d ≡ get_or ds i d
   unfolding front
-  front-get cs zero = refl
+  front-get ds zero = refl
   front-get [] (suc i) = refl
-  front-get (c ∷ cs) (suc i) = front-get cs i
+  front-get (c ∷ es) (suc i) = front-get es i
 
-  front-next : (cs : List A) (i : ℕ) → i < length cs → set (front f i cs) i (f (get_or cs i d)) ≡ front f (suc i) cs
+  front-next : (ds : List A) (i : ℕ) → i < length ds → set (front f i ds) i (f (get_or ds i d)) ≡ front f (suc i) ds
   unfolding front
   front-next [] i h = absurd (not-suc-le-zero h)
-  front-next (c ∷ ds) zero h = refl
-  front-next (c ∷ cs) (suc i) h = ap (λ (r : List A). f c ∷ r) (front-next ds i (le_of_suc-le-suc h))
+  front-next (c ∷ es) zero h = refl
+  front-next (c ∷ es) (suc i) h = ap (λ (r : List A). f c ∷ r) (front-next es i (le_of_suc-le-suc h))
 
 front-valid : (m : Ptr × ℕ) (cs : List Cell) (i : ℕ) → all_valid cs ≡ true → all_valid (front (swap_cell m) i cs) ≡ true
 unfolding front
