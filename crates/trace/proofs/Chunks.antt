@@ -6,7 +6,7 @@ use Rattle.std.proofs.lemmas.List.{drop-take}
 use Rattle.trace.specs.Words.{tab, ptr_at, members, listed}
 use Rattle.trace.proofs.Entries.{tab-ext}
 
-first-entry : (w : List ℕ) → ptr_at (take 3 w) 0 ≡ ptr_at w 0
+pub first-entry : (w : List ℕ) → ptr_at (take 3 w) 0 ≡ ptr_at w 0
 unfolding ptr_at
 first-entry w = rw (get_or-take 3 w 0 0 (omega arith), get_or-take 3 w 1 0 (omega arith), get_or-take 3 w 2 0 (omega arith))
 

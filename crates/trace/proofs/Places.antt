@@ -2,17 +2,17 @@
 use mathlib.Core.Path.{◌≡◌, refl, sym, ap, ◌∙◌}
 use mathlib.Core.Bool.{Bool, true, false}
 use mathlib.Core.List.{List, [], ◌∷◌, ◌++◌, map, map-append}
-use Prim.Native.Nat.{ℕ, zero, suc, ◌+◌, ◌%◌, ◌/◌, ◌≤◌, ◌<◌}
+use Prim.Native.Nat.{ℕ, zero, suc, ◌+◌, ◌*◌, ◌%◌, ◌/◌, ◌≤◌, ◌<◌}
 use native.Mathlib.Numerals.{add-one}
 use native.Mathlib.Nat.{pos_of_ne-zero}
 use native.Mathlib.Omega.{arith}
-use lib.Dec.{ltb}
+use lib.Dec.{eqb, ltb}
 use lib.ListN.{length, get_or, take, drop, drop_of_length-le}
 use lib.Seq.{get_or-take, drop-cons}
-use borrow.Author.Tests.{eq-eqb, ne_eqb, lt-ltb}
+use borrow.Author.Tests.{eq-eqb, ne_eqb, eqb-true, lt-ltb}
 use Rattle.std.specs.Simd.{first_chunks}
 use Rattle.model.specs.Lists.{cons_if, keep_if, flat, places}
-use Rattle.model.specs.Records.{Ptr, Cell, plain, ref, cell_of, cells_of, whole, pointers, in_heap, pointers_to}
+use Rattle.model.specs.Records.{Ptr, Cell, plain, ref, cell_if, cell_of, cells_of, whole, pointers, in_heap, pointers_to}
 use Rattle.model.specs.Barrier.{matches}
 use Rattle.model.specs.Nursery.{matched}
 use Rattle.model.specs.Calls.{cells_in}
@@ -25,29 +25,31 @@ abbrev cell_at : List ℕ → Cell
 cell_at w = cell_of (get_or w 0 0) (get_or w 1 0) (get_or w 2 0)
 
 module _ (w : List ℕ) where
-  -- h is what `heap_of` says
-  module _ {h : ℕ} (said : (get_or w 0 0 % 256 ≡ 5) × (h ≡ get_or w 0 0 / 256)) where
-    pub root-one : pointers (cells_of 1 w) ≡ pointer h (get_or w 1 0) (get_or w 2 0) ∷ []
-    unfolding cells_of cell_of pointers
-    root-one = rw (eq-eqb (get_or w 0 0 % 256) 5 said.0, said.1)
+  pub root-one : get_or w 0 0 % 256 ≡ 5 → pointers (cells_of 1 w) ≡ pointer (get_or w 0 0 / 256) (get_or w 1 0) (get_or w 2 0) ∷ []
+  unfolding cells_of cell_of pointers
+  root-one e = rw (eq-eqb (get_or w 0 0 % 256) 5 e)
 
-    module _ (own : ℕ) where
-      pub own-one : h ≡ own → pointers_to own (cells_of 1 w) ≡ pointer h (get_or w 1 0) (get_or w 2 0) ∷ []
-      unfolding pointers_to keep_if in_heap
-      own-one e = rw (root-one, eq-eqb h own e)
+  pub root_none : (get_or w 0 0 % 256 ≡ 5 → ⊥) → pointers (cells_of 1 w) ≡ []
+  unfolding cells_of cell_of pointers
+  root_none h = rw (ne_eqb (get_or w 0 0 % 256) 5 h)
 
-      pub own-other : (h ≡ own → ⊥) → pointers_to own (cells_of 1 w) ≡ []
-      unfolding pointers_to keep_if in_heap
-      own-other n = rw (root-one, ne_eqb h own n)
+  module _ (own : ℕ) where
+    pub own-one : get_or w 0 0 ≡ 256 * own + 5 → pointers_to own (cells_of 1 w) ≡ pointer own (get_or w 1 0) (get_or w 2 0) ∷ []
+    unfolding pointers_to cells_of cell_of pointers keep_if in_heap
+    own-one e =
+        let kind : (256 * own + 5) % 256 ≡ 5 = omega arith in
+        let heap : (256 * own + 5) / 256 ≡ own = omega arith in
+        rw (e, kind, heap, eq-eqb own own refl)
 
-  module _ (no : get_or w 0 0 % 256 ≡ 5 → ⊥) where
-    pub root_none : pointers (cells_of 1 w) ≡ []
-    unfolding cells_of cell_of pointers
-    root_none = rw (ne_eqb (get_or w 0 0 % 256) 5 no)
-
-    pub own-none : (own : ℕ) → pointers_to own (cells_of 1 w) ≡ []
-    unfolding pointers_to keep_if
-    own-none own = rw root_none
+    pub own-none : (get_or w 0 0 ≡ 256 * own + 5 → ⊥) → pointers_to own (cells_of 1 w) ≡ []
+    unfolding pointers_to cells_of cell_of pointers keep_if in_heap
+    own-none h = go (eqb (get_or w 0 0 % 256) 5) refl
+      where
+        go : (t : Bool) → eqb (get_or w 0 0 % 256) 5 ≡ t → keep_if (in_heap own) (pointers (cell_if t (get_or w 0 0) (get_or w 1 0) (get_or w 2 0) ∷ [])) ≡ []
+        go true e =
+            let kind = eqb-true (get_or w 0 0 % 256) 5 e in
+            rw (ne_eqb (get_or w 0 0 / 256) own (λ q. h (omega arith)))
+        go false e = refl
 
 -- a length n at the base b
 

@@ -107,9 +107,11 @@ fn enter_root(cell: [u64; 3], list: &mut [u64], count: usize) -> usize
     ensures { members result list.new ≡ enter same_ptr (members count list.old) (pointers (cells_of 1 cell)) }
 {
     let [tag, base, offset] = cell;
-    let Some(heap) = value::heap_of(tag) else {
+    // Not by `heap_of`: a root that is none took 11 instructions, not 7.
+    if tag % value::HEAP_STEP != value::POINTER {
         return count;
-    };
+    }
+    let heap = tag / value::HEAP_STEP;
     enter_one(list, count, Member { base, offset, heap })
 }
 
@@ -179,10 +181,11 @@ impl Generation<'_> {
         ensures { members result list.new ≡ enter same_ptr (members count list.old) (pointers_to self.entry.own (cells_of 1 cell)) }
     {
         let [tag, base, offset] = cell;
-        match value::heap_of(tag) {
-            Some(heap) if heap == self.own => enter_one(list, count, Member { base, offset, heap }),
-            _ => count,
+        if tag != value::HEAP_STEP * self.own + value::POINTER {
+            return count;
         }
+        let heap = self.own;
+        enter_one(list, count, Member { base, offset, heap })
     }
 
     // Enters each pointer to the heap own of the len cells from the from-th.

@@ -2,11 +2,11 @@ use Rattle.trace.proofs.Places.{root-one, root_none}
 use Rattle.trace.proofs.Entering.{one-room, one-entered, none-entered}
 use Rattle.trace.proofs.enter_root.Goals as goal
 
-pub returns-in_default : goal.returns-in_default
-returns-in_default c = none-entered _ _ (root_none _ c.in_default.ensures)
+pub returns-then-tag-ne-POINTER : goal.returns-then-tag-ne-POINTER
+returns-then-tag-ne-POINTER c = search (none-entered, root_none)
 
 pub enter_one-requires : goal.enter_one-requires
-enter_one-requires c = one-room _ _ c.requires (root-one _ c.in-Some.ensures)
+enter_one-requires c = search (one-room, root-one)
 
 pub returns : goal.returns
-returns c = one-entered _ _ (root-one _ c.in-Some.ensures) c.enter_one.ensures
+returns c = search (one-entered, root-one)
