@@ -1,50 +1,50 @@
 -- Entering a piece at a time.
 use mathlib.Core.Path.{◌≡◌, refl, sym, ap, ◌∙◌}
 use mathlib.Core.List.{List, [], ◌∷◌, ◌++◌}
-use Prim.Native.Nat.{ℕ, ◌*◌, ◌≤◌}
+use Prim.Native.Nat.{◌*◌, ◌≤◌}
 use native.Mathlib.Omega.{arith}
 use lib.ListN.{length}
-use Rattle.model.specs.Reach.{add, enter}
+use Rattle.model.specs.Reach.{enter}
 use Rattle.model.specs.Records.{Ptr, same_ptr}
-use Rattle.trace.specs.Words.{members, Room}
+use Rattle.trace.specs.declared.Members.{Members}
+use Rattle.trace.specs.Entered.{entries, Becomes, Entered, Room}
 use Rattle.trace.proofs.Closure.{enter-grows, enter-append}
 
 -- a piece brings one pointer, or none
 
-module _ (l xs : List Ptr) where
-  pub one-room : {w : List ℕ} {p : Ptr} → Room w (enter same_ptr l xs) → xs ≡ p ∷ [] → Room w (add same_ptr l p)
-  unfolding enter
+module _ (l : Members) (xs : List Ptr) where
+  pub one-room : {p : Ptr} → Room l xs → xs ≡ p ∷ [] → Room l (p ∷ [])
   one-room r e = rw e at r
 
-  pub one-entered : {m : List Ptr} {p : Ptr} → xs ≡ p ∷ [] → m ≡ add same_ptr l p → m ≡ enter same_ptr l xs
-  unfolding enter
+  pub one-entered : {k : Members} {p : Ptr} → xs ≡ p ∷ [] → Entered l k (p ∷ []) → Entered l k xs
   one-entered e q = rw e q
 
-  pub none-entered : xs ≡ [] → l ≡ enter same_ptr l xs
+  pub none-entered : xs ≡ [] → Entered l l xs
   unfolding enter
-  none-entered e = rw e
+  none-entered e = record { is = rw e; len = refl; same = refl }
 
 -- A loop that enters what is left leads to the goal.
-pub record Entering (left goal : List Ptr) (size : ℕ) (w : List ℕ) (n : ℕ) : Type 0 where
-  pub is : enter same_ptr (members n w) left ≡ goal
-  pub len : length w ≡ size
-  pub fits : 3 * length goal ≤ size
+pub record Entering (left goal : List Ptr) (l₀ l : Members) : Type 0 where
+  pub is : enter same_ptr (entries l) left ≡ goal
+  pub fits : 3 * length goal ≤ length l₀.words.now
+  pub len : length l.words.now ≡ length l₀.words.now
+  pub same : l.words.ghost_name ≡ l₀.words.ghost_name
 
-pub enter-begin : {l xs left : List Ptr} {w : List ℕ} {n : ℕ} → members n w ≡ l → xs ≡ left → Room w (enter same_ptr l xs) → Entering left (enter same_ptr l xs) (length w) w n
-enter-begin is e r = record { is = rw (is, e); len = refl; fits = r.fits }
+pub enter-begin : {l : Members} {xs left : List Ptr} → xs ≡ left → Room l xs → Entering left (enter same_ptr (entries l) xs) l l
+enter-begin e r = record { is = rw e; fits = r.fits; len = refl; same = refl }
 
-module _ {left goal : List Ptr} {size : ℕ} {w : List ℕ} {n : ℕ} (v : Entering left goal size w n) where
+module _ {left goal : List Ptr} {l₀ l : Members} (v : Entering left goal l₀ l) where
   -- a turn enters the front of what is left
   module _ (front rest : List Ptr) (e : left ≡ front ++ rest) where
-    enter-next : enter same_ptr (enter same_ptr (members n w) front) rest ≡ goal
-    enter-next = sym (enter-append same_ptr (members n w) front rest) ∙ (rw e at v.is)
+    enter-next : enter same_ptr (enter same_ptr (entries l) front) rest ≡ goal
+    enter-next = sym (enter-append same_ptr (entries l) front rest) ∙ (rw e at v.is)
 
-    pub enter-room : Room w (enter same_ptr (members n w) front)
-    enter-room = record { fits = omega (arith, ap length enter-next, enter-grows same_ptr (enter same_ptr (members n w) front) rest, v.len, v.fits) }
+    pub enter-room : Room l front
+    enter-room = record { fits = omega (arith, ap length enter-next, enter-grows same_ptr (enter same_ptr (entries l) front) rest, v.len, v.fits) }
 
-    pub enter-turn : {w' : List ℕ} {n' : ℕ} → length w' ≡ length w → members n' w' ≡ enter same_ptr (members n w) front → Entering rest goal size w' n'
-    enter-turn l q = record { is = rw q enter-next; len = l ∙ v.len; fits = v.fits }
+    pub enter-turn : {k : Members} → Entered l k front → Entering rest goal l₀ k
+    enter-turn q = record { is = rw q.is enter-next; fits = v.fits; len = q.len ∙ v.len; same = q.same ∙ v.same }
 
-  pub enter-done : left ≡ [] → members n w ≡ goal
+  pub enter-done : left ≡ [] → Becomes l₀ l goal
   unfolding enter
-  enter-done e = rw e at v.is
+  enter-done e = record { is = rw e at v.is; len = v.len; same = v.same }

@@ -16,7 +16,7 @@ use Rattle.model.specs.Elder.{old_start, old_step, old_members}
 use Rattle.model.specs.Calls.{cells_in}
 use Rattle.theorems.proofs.Regions.{lengths-sum, slots-lengths}
 use Rattle.theorems.proofs.Members.{young-few, old-few}
-use Rattle.trace.specs.Words.{members, Room}
+use Rattle.trace.specs.Words.{members}
 use Rattle.trace.specs.Leads.{begins_at, leads_to, Inside}
 use Rattle.trace.specs.Traces.{Within, most_members, Traced}
 use Rattle.trace.proofs.Closure.{walk_more}
@@ -98,10 +98,10 @@ module _ (roots lens cells ms v w : List ℕ) (n : ℕ)
         rw (begun, ← young-start)
         (closure-walked (young_step y) (leads_to 0 lens cells) (young_start y (cells_in roots) ms) (length (cells_in roots) + 2 * length y.cells) (length w) young-leads small (omega (arith, in-length roots, cells-long)))
 
-  pub young-room : Room w (walk same_ptr (leads_to 0 lens cells) (length w) 0 (members n w))
+  pub young-room : 3 * length (walk same_ptr (leads_to 0 lens cells) (length w) 0 (members n w)) ≤ length w
   young-room =
       let y : Nursery = record { cursor = 0; colls = 0; proms = 0; bar = absent; lens = lens; cells = cells_in cells } in
-      record { fits = omega (arith, small y refl refl, ap length (young-walked y refl refl), in-length roots, in-length cells) }
+      omega (arith, small y refl refl, ap length (young-walked y refl refl), in-length roots, in-length cells)
 
   pub young-done : {m : List Ptr} → m ≡ walk same_ptr (leads_to 0 lens cells) (length w) 0 (members n w) → (y : Nursery) → y.lens ≡ lens → y.cells ≡ cells_in cells → m ≡ young_members y (cells_in roots) ms
   young-done e y same is = e ∙ young-walked y same is
@@ -142,10 +142,10 @@ module _ (roots lens cells ms v w : List ℕ) (n : ℕ)
         rw (begun, ← old-start)
         (closure-walked (old_step e) (leads_to 1 lens cells) (old_start e (cells_in roots) ms) (length (cells_in roots) + length e.slots + in_use e.slots) (length w) old-leads (old-few e (cells_in roots) ms) (omega (arith, old-small)))
 
-  pub old-room : Room w (walk same_ptr (leads_to 1 lens cells) (length w) 0 (members n w))
+  pub old-room : 3 * length (walk same_ptr (leads_to 1 lens cells) (length w) 0 (members n w)) ≤ length w
   old-room =
       let e : Elder = record { colls = 0; bar = absent; slots = cut lens (cells_of (sum lens) cells) } in
-      record { fits = omega (arith, old-few e (cells_in roots) ms, old-small e refl, ap length (old-walked e refl)) }
+      omega (arith, old-few e (cells_in roots) ms, old-small e refl, ap length (old-walked e refl))
 
   pub old-done : {m : List Ptr} → m ≡ walk same_ptr (leads_to 1 lens cells) (length w) 0 (members n w) → (e : Elder) → e.slots ≡ cut lens (cells_of (sum lens) cells) → m ≡ old_members e (cells_in roots) ms
   old-done q e is = q ∙ old-walked e is
@@ -159,7 +159,7 @@ own-inside (suc (suc k)) lens cells s f = absurd (omega arith)
 
 pub own-room : (own : ℕ) (roots lens cells ms v w : List ℕ) (n : ℕ) → own < 2 → Within own lens cells
     → members n w ≡ enter same_ptr [] (pointers (cells_in roots) ++ matched own ms (places 0 lens)) → 3 * (length roots / 3 + most_members own lens) ≤ length v → length w ≡ length v
-    → Room w (walk same_ptr (leads_to own lens cells) (length w) 0 (members n w))
+    → 3 * length (walk same_ptr (leads_to own lens cells) (length w) 0 (members n w)) ≤ length w
 own-room zero roots lens cells ms v w n s f b r k = young-room roots lens cells ms v w n f.0 f.1 b r k
 own-room (suc zero) roots lens cells ms v w n s f b r k = old-room roots lens cells ms v w n b r' k
   where

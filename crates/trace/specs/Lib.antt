@@ -1,3 +1,4 @@
+pub mod Entered
 pub mod Words
 pub mod Leads
 pub mod Traces

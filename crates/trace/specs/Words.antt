@@ -1,5 +1,5 @@
 -- The members of a collection in words, three to an entry: heap, base, offset.
-use Rattle.std.specs.Prelude.{List, [], ◌∷◌, ℕ, zero, suc, ◌+◌, ◌*◌, ◌/◌, ◌≤◌, length, get_or, set}
+use Rattle.std.specs.Prelude.{List, [], ◌∷◌, ℕ, zero, suc, ◌+◌, ◌*◌, ◌/◌, length, get_or, set}
 use Rattle.model.specs.Records.{Ptr}
 use Rattle.trace.specs.declared.Member.{Member}
 
@@ -29,7 +29,3 @@ listed w = members (length w / 3) w
 -- p stored as entry n
 abbrev pub stored : List ℕ → ℕ → Ptr → List ℕ
 stored w n p = set (set (set w (3 * n) p.heap) (3 * n + 1) p.base) (3 * n + 2) p.off
-
--- the words have room for the entries l
-pub record Room (w : List ℕ) (l : List Ptr) : Type 0 where
-  pub fits : 3 * length l ≤ length w

@@ -12,7 +12,8 @@ ghost use Rattle.model.specs.Image.{cut};
 ghost use Rattle.model.specs.Nursery.{matched, young_members};
 ghost use Rattle.model.specs.Elder.{old_members};
 ghost use Rattle.model.specs.Calls.{cells_in};
-ghost use Rattle.trace.specs.Words.{ptr_of, ptr_at, members, listed, stored, Room};
+ghost use Rattle.trace.specs.Words.{ptr_of, ptr_at, members, listed, stored};
+ghost use Rattle.trace.specs.Entered.{entries, Becomes, Entered, Room};
 ghost use Rattle.trace.specs.Leads.{begins_at, leads_to, Inside};
 ghost use Rattle.trace.specs.Traces.{Within, Within-prop, most_members, Traced};
 
@@ -82,18 +83,6 @@ pub fn find(members: &[u64], m: Member) -> bool
     entries.iter().any(|e| m == Member::from(*e))
 }
 
-// Enters it at the end unless it is there; the new count.
-fn enter_one(list: &mut [u64], count: usize, m: Member) -> usize
-    requires { Room list.old (add same_ptr (members count list.old) (ptr_of m)) }
-    ensures { members result list.new ≡ add same_ptr (members count list.old) (ptr_of m) }
-{
-    if find(&list[..3 * count], m) {
-        return count;
-    }
-    m.store(list, count);
-    count + 1
-}
-
 // Does a mask match the base?
 pub fn matches(masks: &[u64], base: u64) -> bool
     ensures { result ≡ matches masks.now base }
@@ -101,31 +90,60 @@ pub fn matches(masks: &[u64], base: u64) -> bool
     masks.iter().any(|mask| *mask & base == *mask)
 }
 
-// Enters a root, if it is a pointer, whichever its heap.
-fn enter_root(cell: [u64; 3], list: &mut [u64], count: usize) -> usize
-    requires { Room list.old (enter same_ptr (members count list.old) (pointers (cells_of 1 cell))) }
-    ensures { members result list.new ≡ enter same_ptr (members count list.old) (pointers (cells_of 1 cell)) }
-{
-    let [tag, base, offset] = cell;
-    // Not by `heap_of`: a root that is none took 11 instructions, not 7.
-    if tag % value::HEAP_STEP != value::POINTER {
-        return count;
-    }
-    let heap = tag / value::HEAP_STEP;
-    enter_one(list, count, Member { base, offset, heap })
+// The members while they are entered: the words that are lent for them, and how many there are.
+#[derive(Drop)]
+struct Members<'a> {
+    words: &'a mut [u64],
+    count: usize,
 }
 
-// Enters each root pointer in an empty list.
-fn enter_roots(roots: &[u64], list: &mut [u64]) -> usize
-    requires { Room list.old (enter same_ptr [] (pointers (cells_in roots.now))) }
-    ensures { members result list.new ≡ enter same_ptr [] (pointers (cells_in roots.now)) }
-{
-    let (cells, _) = roots.as_chunks::<3>();
-    let mut n = 0;
-    for cell in cells {
-        n = enter_root(*cell, list, n);
+impl Members<'_> {
+    // Entry p.
+    fn at(&self, p: usize) -> Member
+        requires { 3 * p + 2 < length self.now.words.now }
+        ensures { ptr_of result ≡ ptr_at self.now.words.now p }
+    {
+        Member::at(self.words, p)
     }
-    n
+
+    // Enters it at the end unless it is there.
+    fn enter(&mut self, m: Member)
+        requires { Room self.old (ptr_of m ∷ []) }
+        ensures { Entered self.old self.new (ptr_of m ∷ []) }
+    {
+        let n = self.count;
+        let words = &mut *self.words;
+        if find(&words[..3 * n], m) {
+            return;
+        }
+        m.store(words, n);
+        self.count = n + 1;
+    }
+
+    // Enters a root, if it is a pointer, whichever its heap.
+    fn enter_root(&mut self, cell: [u64; 3])
+        requires { Room self.old (pointers (cells_of 1 cell)) }
+        ensures { Entered self.old self.new (pointers (cells_of 1 cell)) }
+    {
+        let [tag, base, offset] = cell;
+        // Not by `heap_of`: a root that is none took 11 instructions, not 7.
+        if tag % value::HEAP_STEP != value::POINTER {
+            return;
+        }
+        let heap = tag / value::HEAP_STEP;
+        self.enter(Member { base, offset, heap });
+    }
+
+    // Enters each root pointer.
+    fn enter_roots(&mut self, roots: &[u64])
+        requires { Room self.old (pointers (cells_in roots.now)) }
+        ensures { Entered self.old self.new (pointers (cells_in roots.now)) }
+    {
+        let (cells, _) = roots.as_chunks::<3>();
+        for cell in cells {
+            self.enter_root(*cell);
+        }
+    }
 }
 
 // The generation that is traced: its heap's number, 0 the nursery and 1 the elder, its lengths and its cells. The number is a word, as
@@ -141,65 +159,52 @@ pub struct Generation<'a> {
 
 impl Generation<'_> {
     // Enters (own, base, 0), if there is an allocation at the base, of length len, and a mask matches.
-    fn enter_base(self, base: u64, len: u64, masks: &[u64], list: &mut [u64], count: usize) -> usize
-        requires { Room list.old (enter same_ptr (members count list.old) (matched self.own masks.now (places base (len ∷ [])))) }
-        ensures { members result list.new ≡ enter same_ptr (members count list.old) (matched self.entry.own masks.now (places base (len ∷ []))) }
+    fn enter_base(self, base: u64, len: u64, masks: &[u64], list: &mut Members<'_>)
+        requires { Room list.old (matched self.own masks.now (places base (len ∷ []))) }
+        ensures { Entered list.old list.new (matched self.entry.own masks.now (places base (len ∷ []))) }
     {
         if len == 0 || !matches(masks, base) {
-            return count;
+            return;
         }
-        enter_one(list, count, Member::start(self.own, base))
+        list.enter(Member::start(self.own, base));
     }
 
     // Enters each allocation that a mask matches. Without masks there is none, and the lengths are not gone through.
-    fn enter_matched(self, masks: &[u64], list: &mut [u64], count: usize) -> usize
-        requires { Room list.old (enter same_ptr (members count list.old) (matched self.own masks.now (places 0 self.lens.now))) }
-        ensures { members result list.new ≡ enter same_ptr (members count list.old) (matched self.entry.own masks.now (places 0 self.entry.lens.now)) }
+    fn enter_matched(self, masks: &[u64], list: &mut Members<'_>)
+        requires { Room list.old (matched self.own masks.now (places 0 self.lens.now)) }
+        ensures { Entered list.old list.new (matched self.entry.own masks.now (places 0 self.entry.lens.now)) }
     {
         if masks.is_empty() {
-            return count;
+            return;
         }
-        let mut n = count;
         for (b, len) in self.lens.iter().enumerate() {
-            n = self.enter_base(b as u64, *len, masks, list, n);
+            self.enter_base(b as u64, *len, masks, list);
         }
-        n
-    }
-
-    // The list that a collection starts from: all root pointers, then the allocations that a mask matches.
-    fn start(self, roots: &[u64], masks: &[u64], list: &mut [u64]) -> usize
-        requires { 3 * (length roots.now / 3 + length self.lens.now) ≤ length list.old }
-        ensures { members result list.new ≡ enter same_ptr [] (pointers (cells_in roots.now) ++ matched self.entry.own masks.now (places 0 self.entry.lens.now)) }
-    {
-        let count = enter_roots(roots, list);
-        self.enter_matched(masks, list, count)
     }
 
     // Enters a cell, if it is a pointer to the heap own.
-    fn enter_own(self, cell: [u64; 3], list: &mut [u64], count: usize) -> usize
-        requires { Room list.old (enter same_ptr (members count list.old) (pointers_to self.own (cells_of 1 cell))) }
-        ensures { members result list.new ≡ enter same_ptr (members count list.old) (pointers_to self.entry.own (cells_of 1 cell)) }
+    fn enter_own(self, cell: [u64; 3], list: &mut Members<'_>)
+        requires { Room list.old (pointers_to self.own (cells_of 1 cell)) }
+        ensures { Entered list.old list.new (pointers_to self.entry.own (cells_of 1 cell)) }
     {
         let [tag, base, offset] = cell;
         if tag != value::HEAP_STEP * self.own + value::POINTER {
-            return count;
+            return;
         }
         let heap = self.own;
-        enter_one(list, count, Member { base, offset, heap })
+        list.enter(Member { base, offset, heap });
     }
 
     // Enters each pointer to the heap own of the len cells from the from-th.
-    fn scan(self, from: usize, len: usize, list: &mut [u64], count: usize) -> usize
+    fn scan(self, from: usize, len: usize, list: &mut Members<'_>)
         requires len_in_bounds { 3 * (from + len) ≤ length self.cells.now }
-        requires room { Room list.old (enter same_ptr (members count list.old) (pointers_to self.own (cells_of len (drop (3 * from) self.cells.now)))) }
-        ensures { members result list.new ≡ enter same_ptr (members count list.old) (pointers_to self.entry.own (cells_of len (drop (3 * from) self.entry.cells.now))) }
+        requires room { Room list.old (pointers_to self.own (cells_of len (drop (3 * from) self.cells.now))) }
+        ensures { Entered list.old list.new (pointers_to self.entry.own (cells_of len (drop (3 * from) self.entry.cells.now))) }
     {
         let (cells, _) = self.cells[3 * from..3 * (from + len)].as_chunks::<3>();
-        let mut n = count;
         for cell in cells {
-            n = self.enter_own(*cell, list, n);
+            self.enter_own(*cell, list);
         }
-        n
     }
 
     // The length of the allocation at b, 0 where there is none.
@@ -222,41 +227,45 @@ impl Generation<'_> {
     }
 
     // Visits entry p, whichever its heap: enters what the allocation at its base leads to, if there is one.
-    fn visit(self, list: &mut [u64], count: usize, p: usize) -> usize
-        requires p_lt_count { (p < count) × (3 * count ≤ length list.old) }
-        requires room { Room list.old (enter same_ptr (members count list.old) (leads_to self.own self.lens.now self.cells.now (ptr_at list.old p))) }
-        ensures { members result list.new ≡ enter same_ptr (members count list.old) (leads_to self.entry.own self.entry.lens.now self.entry.cells.now (ptr_at list.old p)) }
+    fn visit(self, list: &mut Members<'_>, p: usize)
+        requires p_lt_count { (p < list.old.count) × (3 * list.old.count ≤ length list.old.words.now) }
+        requires room { Room list.old (leads_to self.own self.lens.now self.cells.now (ptr_at list.old.words.now p)) }
+        ensures { Entered list.old list.new (leads_to self.entry.own self.entry.lens.now self.entry.cells.now (ptr_at list.old.words.now p)) }
     {
-        let b = Member::at(list, p).base as usize;
+        let b = list.at(p).base as usize;
         let len = self.len_at(b);
         if len == 0 {
-            return count;
+            return;
         }
         let from = self.begins_at(b);
-        self.scan(from, len, list, count)
+        self.scan(from, len, list);
     }
 
     // Visits every entry, in order, also those that are entered on the way.
-    fn walk(self, list: &mut [u64], count: usize) -> usize
-        requires { Room list.old (walk same_ptr (leads_to self.own self.lens.now self.cells.now) (length list.old) 0 (members count list.old)) }
-        ensures { members result list.new ≡ walk same_ptr (leads_to self.entry.own self.entry.lens.now self.entry.cells.now) (length list.old) 0 (members count list.old) }
+    fn walk(self, list: &mut Members<'_>)
+        requires { 3 * length (walk same_ptr (leads_to self.own self.lens.now self.cells.now) (length list.old.words.now) 0 (entries list.old)) ≤ length list.old.words.now }
+        ensures { Becomes list.old list.new (walk same_ptr (leads_to self.entry.own self.entry.lens.now self.entry.cells.now) (length list.old.words.now) 0 (entries list.old)) }
     {
-        let mut n = count;
         let mut p = 0;
         // No `for`: the list grows as it is walked, so its entries are no range or slice.
-        while p < n {
-            n = self.visit(list, n, p);
+        while p < list.count {
+            self.visit(list, p);
             p += 1;
         }
-        n
     }
 
-    // The members of a collection of the heap own.
+    // The members of a collection of the heap own: all root pointers, the allocations that a mask matches, and what these lead to.
     pub fn list_members(self, roots: &[u64], masks: &[u64], list: &mut [u64]) -> usize
         requires { 3 * (length roots.now / 3 + most_members self.own self.lens.now) ≤ length list.old }
         ensures { Traced self.entry.own self.entry.lens.now self.entry.cells.now (cells_in roots.now) masks.now (members result list.new) }
     {
-        let count = self.start(roots, masks, list);
-        self.walk(list, count)
+        let mut members = Members {
+            words: list,
+            count: 0,
+        };
+        members.enter_roots(roots);
+        self.enter_matched(masks, &mut members);
+        self.walk(&mut members);
+        members.count
     }
 }

@@ -9,8 +9,8 @@ returns-then-len-eq0 c = elim c.then-len-eq0.branch [
   | then-len-eq0-via-else-len-eq0+then-not-matches w ↦ search (none-entered, base-none)
 ]
 
-pub enter_one-requires : goal.enter_one-requires
-enter_one-requires c = search (one-room, base-one)
+pub enter-requires : goal.enter-requires
+enter-requires c = search (one-room, base-one)
 
 pub returns : goal.returns
 returns c = search (one-entered, base-one)

@@ -1,11 +1,11 @@
-use lib.ListN.{length, drop}
+use lib.ListN.{drop}
 use Rattle.model.specs.Reach.{enter}
 use Rattle.model.specs.Records.{same_ptr}
 use Rattle.model.specs.Lists.{places}
 use Rattle.model.specs.Nursery.{matched}
-use Rattle.trace.specs.Words.{members}
+use Rattle.trace.specs.Entered.{entries}
 use Rattle.trace.proofs.Entering.{Entering}
 use Rattle.trace.proofs.Generation.enter_matched.Given as goal
 
 abbrev pub invariant-loop-b : goal.invariant-loop-b
-invariant-loop-b l = Entering (matched l.self.own l.masks (places l.b (drop l.b l.self.lens.now))) (enter same_ptr (members l.count l.initial.list) (matched l.self.own l.masks (places 0 l.self.lens.now))) (length l.initial.list) l.list l.n
+invariant-loop-b l = Entering (matched l.self.own l.masks (places l.b (drop l.b l.self.lens.now))) (enter same_ptr (entries l.initial.list) (matched l.self.own l.masks (places 0 l.self.lens.now))) l.initial.list l.list

@@ -1,11 +1,13 @@
-use Rattle.std.proofs.Common.{◌≡◌, Bool, true, false, ℕ, ◌+◌, ◌*◌, ◌^◌, ◌≤◌, ◌<◌, List, length, get_or, drop, ltb, refl, ◌∙◌, arith, ltb-true, ltb-false}
+use Rattle.std.proofs.Common.{◌≡◌, [], Bool, true, false, ℕ, ◌+◌, ◌*◌, ◌^◌, ◌≤◌, ◌<◌, List, length, get_or, drop, ltb, refl, ◌∙◌, arith, ltb-true, ltb-false}
 use native.Mathlib.Nat.{pos_of_ne-zero}
 use lib.ListN.{get_or-eq_default}
 use Rattle.model.specs.Lists.{keep_if}
-use Rattle.model.specs.Reach.{enter}
-use Rattle.model.specs.Records.{Ptr, same_ptr, cells_of, pointers, pointers_to}
+use Rattle.model.specs.Records.{Ptr, cells_of, pointers, pointers_to}
 use Rattle.trace.specs.declared.Member.{Member}
-use Rattle.trace.specs.Words.{ptr_of, Room}
+use Rattle.trace.specs.Words.{ptr_of}
+use Rattle.trace.specs.declared.Members.{Members}
+use Rattle.trace.specs.Entered.{Entered, Room}
+use Rattle.trace.proofs.Entering.{none-entered}
 use Rattle.trace.specs.Leads.{begins_at, leads_to}
 use Rattle.trace.specs.Traces.{Within}
 use Rattle.trace.proofs.Heaps.{own-inside}
@@ -13,9 +15,9 @@ use Rattle.trace.proofs.Generation.visit.Goals as goal
 
 -- the allocation at the base of m has n cells
 module _ (own : ℕ) (ls cells : List ℕ) (m : Member) {n : ℕ} (len : n ≡ get_or ls m.base 0) where
-  leads-nowhere : (l : List Ptr) {p : Ptr} → ptr_of m ≡ p → n ≡ 0 → l ≡ enter same_ptr l (leads_to own ls cells p)
-  unfolding leads_to pointers_to pointers keep_if cells_of enter
-  leads-nowhere l at e = rw (← at, ← len, e)
+  leads-nowhere : {p : Ptr} → ptr_of m ≡ p → n ≡ 0 → leads_to own ls cells p ≡ []
+  unfolding leads_to pointers_to pointers keep_if cells_of
+  leads-nowhere at e = rw (← at, ← len, e)
 
   b-below : (n ≡ 0 → ⊥) → m.base ≤ length ls
   b-below h = go (ltb m.base (length ls)) refl
@@ -39,14 +41,14 @@ module _ (own : ℕ) (ls cells : List ℕ) (m : Member) {n : ℕ} (len : n ≡ g
     unfolding leads_to
     leads = rw (← at, ← len, ← e)
 
-    scan-room : (w : List ℕ) (l : List Ptr) → Room w (enter same_ptr l (leads_to own ls cells p)) → Room w (enter same_ptr l (pointers_to own (cells_of n (drop (3 * s) cells))))
-    scan-room w l r = rw leads at r
+    scan-room : (l : Members) → Room l (leads_to own ls cells p) → Room l (pointers_to own (cells_of n (drop (3 * s) cells)))
+    scan-room l r = rw leads at r
 
-    scan-done : (l k : List Ptr) → k ≡ enter same_ptr l (pointers_to own (cells_of n (drop (3 * s) cells))) → k ≡ enter same_ptr l (leads_to own ls cells p)
+    scan-done : (l k : Members) → Entered l k (pointers_to own (cells_of n (drop (3 * s) cells))) → Entered l k (leads_to own ls cells p)
     scan-done l k q = rw leads q
 
 pub returns-then-len-eq0 : goal.returns-then-len-eq0
-returns-then-len-eq0 c = search leads-nowhere
+returns-then-len-eq0 c = search (none-entered, leads-nowhere)
 
 pub begins_at-from-requires : goal.begins_at-from-requires
 begins_at-from-requires c = record {

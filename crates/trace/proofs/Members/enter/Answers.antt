@@ -1,4 +1,4 @@
-use mathlib.Core.Path.{◌≡◌, sym, ap, ◌∙◌}
+use mathlib.Core.Path.{◌≡◌, refl, sym, ap, ◌∙◌}
 use mathlib.Core.Bool.{Bool, true, false}
 use mathlib.Core.List.{List, [], ◌∷◌, ◌++◌}
 use Prim.Native.Nat.{ℕ, ◌+◌, ◌*◌, ◌^◌, ◌≤◌, ◌<◌}
@@ -7,17 +7,25 @@ use lib.ListN.{length, take, length-append}
 use lib.Seq.{length-take-le}
 use mir.Val.{Fits}
 use mir.Syntax.{w64}
-use Rattle.model.specs.Reach.{mem, add}
+use Rattle.model.specs.Reach.{mem, enter}
 use Rattle.model.specs.Records.{Ptr, same_ptr}
-use Rattle.trace.specs.Words.{members, listed, stored, Room}
+use Rattle.trace.specs.declared.Members.{Members}
+use Rattle.trace.specs.Words.{members, listed, stored}
+use Rattle.trace.specs.Entered.{entries, Room}
 use Rattle.trace.proofs.Entries.{length-members, members-stored}
 use Rattle.trace.proofs.Chunks.{listed-cut}
-use Rattle.trace.proofs.Closure.{add-old, add-new, add-sized}
-use Rattle.trace.proofs.enter_one.Goals as goal
+use Rattle.trace.proofs.Closure.{add-old, add-new, enter-grows}
+use Rattle.trace.proofs.Members.enter.Goals as goal
 
-module _ (w : List ℕ) (n : ℕ) (p : Ptr) (room : Room w (add same_ptr (members n w) p)) where
+module _ (l : Members) (p : Ptr) (room : Room l (p ∷ [])) where
+  abbrev w : List ℕ
+  w = l.words.now
+
+  abbrev n : ℕ
+  n = l.count
+
   room-count : 3 * n ≤ length w
-  room-count = omega (arith, room.fits, (add-sized same_ptr (members n w) p).0, length-members n w)
+  room-count = omega (arith, room.fits, enter-grows same_ptr (entries l) (p ∷ []), length-members n w)
 
   cut_fits : length w < 2 ^ 64 → Fits w64 (3 * n)
   cut_fits h = omega (arith, room-count)
@@ -30,10 +38,12 @@ module _ (w : List ℕ) (n : ℕ) (p : Ptr) (room : Room w (add same_ptr (member
     said : r ≡ mem same_ptr p (members n w)
     said = told ∙ ap (mem same_ptr p) (listed-cut n w room-count)
 
-    entered-old : r ≡ true → members n w ≡ add same_ptr (members n w) p
+    entered-old : r ≡ true → members n w ≡ enter same_ptr (entries l) (p ∷ [])
+    unfolding enter
     entered-old e = sym (add-old same_ptr (members n w) p (sym said ∙ e))
 
-    added : r ≡ false → add same_ptr (members n w) p ≡ members n w ++ p ∷ []
+    added : r ≡ false → enter same_ptr (entries l) (p ∷ []) ≡ members n w ++ p ∷ []
+    unfolding enter
     added e = add-new same_ptr (members n w) p (sym said ∙ e)
 
     room-new : r ≡ false → 3 * n + 2 < length w
@@ -42,11 +52,11 @@ module _ (w : List ℕ) (n : ℕ) (p : Ptr) (room : Room w (add same_ptr (member
     count_fits : r ≡ false → length w < 2 ^ 64 → Fits w64 (n + 1)
     count_fits e h = omega (arith, room-new e)
 
-    entered-new : r ≡ false → {v : List ℕ} → v ≡ stored w n p → members (n + 1) v ≡ add same_ptr (members n w) p
+    entered-new : r ≡ false → {v : List ℕ} → v ≡ stored w n p → members (n + 1) v ≡ enter same_ptr (entries l) (p ∷ [])
     entered-new e s = rw s (members-stored w n p (room-new e)) ∙ sym (added e)
 
-pub overflow_mul-count : goal.overflow_mul-count
-overflow_mul-count c = search cut_fits
+pub overflow_mul-n : goal.overflow_mul-n
+overflow_mul-n c = search cut_fits
 
 pub slice_bounds-find-end : goal.slice_bounds-find-end
 slice_bounds-find-end c = search room-count
@@ -55,13 +65,13 @@ pub slice_bounds-find-end-2 : goal.slice_bounds-find-end-2
 slice_bounds-find-end-2 c = search cut-length
 
 pub returns-then-find : goal.returns-then-find
-returns-then-find c = search entered-old
+returns-then-find c = record { is = search entered-old; len = refl; same = refl }
 
 pub store-requires : goal.store-requires
 store-requires c = search room-new
 
-pub overflow_add-result : goal.overflow_add-result
-overflow_add-result c = search count_fits
+pub overflow_add-self : goal.overflow_add-self
+overflow_add-self c = search count_fits
 
 pub returns : goal.returns
-returns c = search entered-new
+returns c = record { is = search entered-new; len = c.store.auto.list; same = refl }
