@@ -1,5 +1,4 @@
-// The list of members of a collection, in lent words, for either heap. It is the model's list, in the same order. What enters a member
-// takes the words and a count beside them: the list grows, and the heap takes no memory but what it is lent.
+// The list of members of a collection, in lent words, for either heap. It is the model's list, in the same order.
 #![tactic(auto)]
 
 ghost use Rattle.std.specs.Prelude.{◌≡◌, [], ◌∷◌, ◌++◌, ℕ, ◌+◌, ◌*◌, ◌/◌, ◌^◌, ◌≤◌, ◌<◌, length, get_or, drop};
@@ -159,51 +158,51 @@ pub struct Generation<'a> {
 
 impl Generation<'_> {
     // Enters (own, base, 0), if there is an allocation at the base, of length len, and a mask matches.
-    fn enter_base(self, base: u64, len: u64, masks: &[u64], list: &mut Members<'_>)
-        requires { Room list.old (matched self.own masks.now (places base (len ∷ []))) }
-        ensures { Entered list.old list.new (matched self.entry.own masks.now (places base (len ∷ []))) }
+    fn enter_base(self, base: u64, len: u64, masks: &[u64], members: &mut Members<'_>)
+        requires { Room members.old (matched self.own masks.now (places base (len ∷ []))) }
+        ensures { Entered members.old members.new (matched self.entry.own masks.now (places base (len ∷ []))) }
     {
         if len == 0 || !matches(masks, base) {
             return;
         }
-        list.enter(Member::start(self.own, base));
+        members.enter(Member::start(self.own, base));
     }
 
     // Enters each allocation that a mask matches. Without masks there is none, and the lengths are not gone through.
-    fn enter_matched(self, masks: &[u64], list: &mut Members<'_>)
-        requires { Room list.old (matched self.own masks.now (places 0 self.lens.now)) }
-        ensures { Entered list.old list.new (matched self.entry.own masks.now (places 0 self.entry.lens.now)) }
+    fn enter_matched(self, masks: &[u64], members: &mut Members<'_>)
+        requires { Room members.old (matched self.own masks.now (places 0 self.lens.now)) }
+        ensures { Entered members.old members.new (matched self.entry.own masks.now (places 0 self.entry.lens.now)) }
     {
         if masks.is_empty() {
             return;
         }
         for (b, len) in self.lens.iter().enumerate() {
-            self.enter_base(b as u64, *len, masks, list);
+            self.enter_base(b as u64, *len, masks, members);
         }
     }
 
     // Enters a cell, if it is a pointer to the heap own.
-    fn enter_own(self, cell: [u64; 3], list: &mut Members<'_>)
-        requires { Room list.old (pointers_to self.own (cells_of 1 cell)) }
-        ensures { Entered list.old list.new (pointers_to self.entry.own (cells_of 1 cell)) }
+    fn enter_own(self, cell: [u64; 3], members: &mut Members<'_>)
+        requires { Room members.old (pointers_to self.own (cells_of 1 cell)) }
+        ensures { Entered members.old members.new (pointers_to self.entry.own (cells_of 1 cell)) }
     {
         let [tag, base, offset] = cell;
         if tag != value::HEAP_STEP * self.own + value::POINTER {
             return;
         }
         let heap = self.own;
-        list.enter(Member { base, offset, heap });
+        members.enter(Member { base, offset, heap });
     }
 
     // Enters each pointer to the heap own of the len cells from the from-th.
-    fn scan(self, from: usize, len: usize, list: &mut Members<'_>)
+    fn scan(self, from: usize, len: usize, members: &mut Members<'_>)
         requires len_in_bounds { 3 * (from + len) ≤ length self.cells.now }
-        requires room { Room list.old (pointers_to self.own (cells_of len (drop (3 * from) self.cells.now))) }
-        ensures { Entered list.old list.new (pointers_to self.entry.own (cells_of len (drop (3 * from) self.entry.cells.now))) }
+        requires room { Room members.old (pointers_to self.own (cells_of len (drop (3 * from) self.cells.now))) }
+        ensures { Entered members.old members.new (pointers_to self.entry.own (cells_of len (drop (3 * from) self.entry.cells.now))) }
     {
         let (cells, _) = self.cells[3 * from..3 * (from + len)].as_chunks::<3>();
         for cell in cells {
-            self.enter_own(*cell, list);
+            self.enter_own(*cell, members);
         }
     }
 
@@ -227,34 +226,34 @@ impl Generation<'_> {
     }
 
     // Visits entry p, whichever its heap: enters what the allocation at its base leads to, if there is one.
-    fn visit(self, list: &mut Members<'_>, p: usize)
-        requires p_lt_count { (p < list.old.count) × (3 * list.old.count ≤ length list.old.words.now) }
-        requires room { Room list.old (leads_to self.own self.lens.now self.cells.now (ptr_at list.old.words.now p)) }
-        ensures { Entered list.old list.new (leads_to self.entry.own self.entry.lens.now self.entry.cells.now (ptr_at list.old.words.now p)) }
+    fn visit(self, members: &mut Members<'_>, p: usize)
+        requires p_lt_count { (p < members.old.count) × (3 * members.old.count ≤ length members.old.words.now) }
+        requires room { Room members.old (leads_to self.own self.lens.now self.cells.now (ptr_at members.old.words.now p)) }
+        ensures { Entered members.old members.new (leads_to self.entry.own self.entry.lens.now self.entry.cells.now (ptr_at members.old.words.now p)) }
     {
-        let b = list.at(p).base as usize;
+        let b = members.at(p).base as usize;
         let len = self.len_at(b);
         if len == 0 {
             return;
         }
         let from = self.begins_at(b);
-        self.scan(from, len, list);
+        self.scan(from, len, members);
     }
 
     // Visits every entry, in order, also those that are entered on the way.
-    fn walk(self, list: &mut Members<'_>)
-        requires { 3 * length (walk same_ptr (leads_to self.own self.lens.now self.cells.now) (length list.old.words.now) 0 (entries list.old)) ≤ length list.old.words.now }
-        ensures { Becomes list.old list.new (walk same_ptr (leads_to self.entry.own self.entry.lens.now self.entry.cells.now) (length list.old.words.now) 0 (entries list.old)) }
+    fn walk(self, members: &mut Members<'_>)
+        requires { 3 * length (walk same_ptr (leads_to self.own self.lens.now self.cells.now) (length members.old.words.now) 0 (entries members.old)) ≤ length members.old.words.now }
+        ensures { Becomes members.old members.new (walk same_ptr (leads_to self.entry.own self.entry.lens.now self.entry.cells.now) (length members.old.words.now) 0 (entries members.old)) }
     {
         let mut p = 0;
         // No `for`: the list grows as it is walked, so its entries are no range or slice.
-        while p < list.count {
-            self.visit(list, p);
+        while p < members.count {
+            self.visit(members, p);
             p += 1;
         }
     }
 
-    // The members of a collection of the heap own: all root pointers, the allocations that a mask matches, and what these lead to.
+    // The members of a collection of the heap own: all root pointers, then the allocations that a mask matches, then what these lead to.
     pub fn list_members(self, roots: &[u64], masks: &[u64], list: &mut [u64]) -> usize
         requires { 3 * (length roots.now / 3 + most_members self.own self.lens.now) ≤ length list.old }
         ensures { Traced self.entry.own self.entry.lens.now self.entry.cells.now (cells_in roots.now) masks.now (members result list.new) }

@@ -8,4 +8,4 @@ use Rattle.trace.proofs.Entering.{Entering}
 use Rattle.trace.proofs.Generation.enter_matched.Given as goal
 
 abbrev pub invariant-loop-b : goal.invariant-loop-b
-invariant-loop-b l = Entering (matched l.self.own l.masks (places l.b (drop l.b l.self.lens.now))) (enter same_ptr (entries l.initial.list) (matched l.self.own l.masks (places 0 l.self.lens.now))) l.initial.list l.list
+invariant-loop-b l = Entering (matched l.self.own l.masks (places l.b (drop l.b l.self.lens.now))) (enter same_ptr (entries l.initial.members) (matched l.self.own l.masks (places 0 l.self.lens.now))) l.initial.members l.members

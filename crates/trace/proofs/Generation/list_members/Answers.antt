@@ -66,4 +66,4 @@ pub returns : goal.returns
 unfolding members tab
 returns c =
     own-done _ _ _ _ _ _ _ _ c.args.self.two c.args.self.within (begun _ _ _ _ _ c.requires refl _ c.enter_roots.ensures _ c.enter_matched.ensures) c.requires (c.enter_matched.ensures.len ∙ c.enter_roots.ensures.len)
-    (lent _ c.walk.new.list.words.now _ (search (rules, c.walk.ensures.same, c.enter_matched.ensures.same, c.enter_roots.ensures.same)) c.walk.ensures.is)
+    (lent _ c.walk.new.members.words.now _ (search (rules, c.walk.ensures.same, c.enter_matched.ensures.same, c.enter_roots.ensures.same)) c.walk.ensures.is)

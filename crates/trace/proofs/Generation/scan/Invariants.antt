@@ -9,4 +9,4 @@ use Rattle.trace.proofs.Entering.{Entering}
 use Rattle.trace.proofs.Generation.scan.Given as goal
 
 abbrev pub invariant-loop-cell : goal.invariant-loop-cell
-invariant-loop-cell l = Entering (flat (map (λ e. pointers_to l.self.own (cells_of 1 e)) (drop l.cell-index l.cells))) (enter same_ptr (entries l.initial.list) (pointers_to l.self.own (cells_of l.len (drop (3 * l.from) l.self.cells.now)))) l.initial.list l.list
+invariant-loop-cell l = Entering (flat (map (λ e. pointers_to l.self.own (cells_of 1 e)) (drop l.cell-index l.cells))) (enter same_ptr (entries l.initial.members) (pointers_to l.self.own (cells_of l.len (drop (3 * l.from) l.self.cells.now)))) l.initial.members l.members

@@ -18,7 +18,7 @@ pub record Walking (step : Ptr → List Ptr) (goal : List Ptr) (l₀ l : Members
   pub same : l.words.ghost_name ≡ l₀.words.ghost_name
 
 abbrev pub invariant-loop-p : goal.invariant-loop-p
-invariant-loop-p l = Walking (leads_to l.self.own l.self.lens.now l.self.cells.now) (walk same_ptr (leads_to l.self.own l.self.lens.now l.self.cells.now) (length l.initial.list.words.now) 0 (entries l.initial.list)) l.initial.list l.list l.p
+invariant-loop-p l = Walking (leads_to l.self.own l.self.lens.now l.self.cells.now) (walk same_ptr (leads_to l.self.own l.self.lens.now l.self.cells.now) (length l.initial.members.words.now) 0 (entries l.initial.members)) l.initial.members l.members l.p
 
 abbrev pub decreases-loop-p : goal.decreases-loop-p
-decreases-loop-p l = length l.initial.list.words.now - l.p
+decreases-loop-p l = length l.initial.members.words.now - l.p
