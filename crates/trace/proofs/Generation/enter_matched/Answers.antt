@@ -5,7 +5,7 @@ use Rattle.model.specs.Lists.{places, keep_if}
 use Rattle.model.specs.Barrier.{matches}
 use Rattle.model.specs.Nursery.{matched}
 use Rattle.trace.proofs.Places.{base-next, base-end}
-use Rattle.trace.proofs.Entering.{none-entered, enter-begin, enter-room, enter-turn, enter-done}
+use Rattle.trace.proofs.Entering.{none-entered, enter-room, enter-turn, enter-done}
 use Rattle.trace.proofs.Generation.enter_matched.Goals as goal
 
 none-matched : (own : ℕ) (bs : List ℕ) → matched own [] bs ≡ []
@@ -21,9 +21,6 @@ pub returns-then-is_empty : goal.returns-then-is_empty
 returns-then-is_empty c =
     let none : c.args.masks.now ≡ [] = no-words c.args.masks.now (sym c.if-is_empty.true ∙ c.is_empty.ensures) in
     none-entered _ _ (rw none (none-matched c.args.self.own (places 0 c.args.self.lens.now)))
-
-pub loop-b-init : goal.loop-b-init
-loop-b-init c = enter-begin refl c.requires
 
 pub enter_base-requires : goal.enter_base-requires
 enter_base-requires c = enter-room c.loop-b.invariant _ _ (base-next _ _ _ _ c.loop-b-test.true)

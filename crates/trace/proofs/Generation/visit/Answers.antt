@@ -1,6 +1,5 @@
-use Rattle.std.proofs.Common.{◌≡◌, [], Bool, true, false, ℕ, ◌+◌, ◌*◌, ◌^◌, ◌≤◌, ◌<◌, List, length, get_or, drop, ltb, refl, ◌∙◌, arith, ltb-true, ltb-false}
+use Rattle.std.proofs.Common.{◌≡◌, [], ℕ, ◌+◌, ◌*◌, ◌^◌, ◌≤◌, ◌<◌, List, length, get_or, drop, ◌∙◌, arith}
 use native.Mathlib.Nat.{pos_of_ne-zero}
-use lib.ListN.{get_or-eq_default}
 use Rattle.model.specs.Lists.{keep_if}
 use Rattle.model.specs.Records.{Ptr, cells_of, pointers, pointers_to}
 use Rattle.trace.specs.declared.Member.{Member}
@@ -18,13 +17,6 @@ module _ (own : ℕ) (ls cells : List ℕ) (m : Member) {n : ℕ} (len : n ≡ g
   leads-nowhere : {p : Ptr} → ptr_of m ≡ p → n ≡ 0 → leads_to own ls cells p ≡ []
   unfolding leads_to pointers_to pointers keep_if cells_of
   leads-nowhere at e = rw (← at, ← len, e)
-
-  b-below : (n ≡ 0 → ⊥) → m.base ≤ length ls
-  b-below h = go (ltb m.base (length ls)) refl
-    where
-      go : (t : Bool) → ltb m.base (length ls) ≡ t → m.base ≤ length ls
-      go true e = omega (arith, ltb-true m.base (length ls) e)
-      go false e = absurd (h (len ∙ get_or-eq_default ls 0 (ltb-false m.base (length ls) e)))
 
   module _ (two : own < 2) (f : Within own ls cells) (h : n ≡ 0 → ⊥) where
     inside : 3 * (begins_at own ls m.base + n) ≤ length cells
@@ -50,17 +42,14 @@ module _ (own : ℕ) (ls cells : List ℕ) (m : Member) {n : ℕ} (len : n ≡ g
 pub returns-then-len-eq0 : goal.returns-then-len-eq0
 returns-then-len-eq0 c = search (none-entered, leads-nowhere)
 
-pub begins_at-from-requires : goal.begins_at-from-requires
-begins_at-from-requires c = record {
-  b_in_bounds = search b-below;
-  b_bound = search begin-fits;
-}
+pub begins_at-from-requires-clause-b_bound : goal.begins_at-from-requires-clause-b_bound
+begins_at-from-requires-clause-b_bound c = search begin-fits
 
-pub scan-requires : goal.scan-requires
-scan-requires c = record {
-  len_in_bounds = search scan-within;
-  room = search scan-room;
-}
+pub scan-requires-clause-len_in_bounds : goal.scan-requires-clause-len_in_bounds
+scan-requires-clause-len_in_bounds c = search scan-within
+
+pub scan-requires-clause-room : goal.scan-requires-clause-room
+scan-requires-clause-room c = search scan-room
 
 pub returns : goal.returns
 returns c = search scan-done

@@ -51,11 +51,8 @@ module _ {step : Ptr → List Ptr} {goal : List Ptr} {l₀ l : Members} {p : ℕ
 pub loop-p-init : goal.loop-p-init
 loop-p-init c = search walk-begin
 
-pub visit-requires : goal.visit-requires
-visit-requires c = record {
-  p_lt_count = (omega arith, omega (arith, c.loop-p.invariant.len, c.loop-p.invariant.below));
-  room = search walk-room;
-}
+pub visit-requires-clause-room : goal.visit-requires-clause-room
+visit-requires-clause-room c = search walk-room
 
 pub loop-p-preserved : goal.loop-p-preserved
 loop-p-preserved c = search walk_turn

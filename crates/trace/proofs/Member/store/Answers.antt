@@ -1,6 +1,0 @@
-use native.Mathlib.Omega.{arith}
-use lib.ListN.{length-set}
-use Rattle.trace.proofs.Member.store.Goals as goal
-
-pub bounds-list-at-2 : goal.bounds-list-at-2
-bounds-list-at-2 c = simp length-set (omega arith)
