@@ -1,4 +1,4 @@
-pub mod Entered
 pub mod Words
+pub mod Entered
 pub mod Leads
 pub mod Traces

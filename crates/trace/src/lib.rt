@@ -111,6 +111,7 @@ impl Members<'_> {
         ensures { Entered self.old self.new (ptr_of m ∷ []) }
     {
         let n = self.count;
+        // Named: of words that a field lends, nothing but their number is known afterwards.
         let words = &mut *self.words;
         if find(&words[..3 * n], m) {
             return;
