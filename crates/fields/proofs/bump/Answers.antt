@@ -16,8 +16,5 @@ bounds-image-4 c = search (header-in c.requires.image, rules)
 pub overflow_add-image : goal.overflow_add-image
 overflow_add-image c = omega (arith, bump-room _ c.header_of-at.ensures.cursor c.requires.amount_nonzero.1 c.requires.image)
 
-pub returns : goal.returns
-returns c = record {
-  turns = bump-turns _ c.header_of-at.ensures.cursor c.requires.amount_nonzero.1 c.requires.amount_nonzero.0;
-  base = c.header_of-at.ensures.cursor;
-}
+pub returns-clause-turns : goal.returns-clause-turns
+returns-clause-turns c = bump-turns _ c.header_of-at.ensures.cursor c.requires.amount_nonzero.1 c.requires.amount_nonzero.0

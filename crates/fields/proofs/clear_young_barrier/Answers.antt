@@ -1,11 +1,8 @@
 use Rattle.fields.proofs.Turned.{absent-stays, absent-fits, absent-put}
 use Rattle.fields.proofs.clear_young_barrier.Goals as goal
 
-pub put_barrier-requires : goal.put_barrier-requires
-put_barrier-requires c = record {
-  image = c.requires;
-  fit_barrier = absent-fits c.clear.ensures;
-}
+pub put_barrier-requires-clause-fit_barrier : goal.put_barrier-requires-clause-fit_barrier
+put_barrier-requires-clause-fit_barrier c = absent-fits c.clear.ensures
 
 pub returns-then-is_present : goal.returns-then-is_present
 returns-then-is_present c = absent-put c.clear.ensures c.put_barrier.ensures

@@ -15,14 +15,8 @@ overflow_add-moved c =
     let promotions = c.header_of-h.ensures.promotions in
     omega (arith, most-is, pre.image_bound.1, promotions.reads _ pre.image)
 
-pub restart-requires : goal.restart-requires
-restart-requires c =
-    let pre = c.requires in
-    let collections = c.header_of-h.ensures.young_collections in
-    let promotions = c.header_of-h.ensures.promotions in record {
-      image = next-image c.clear_young_barrier.ensures pre.image;
-      collections_le_most = (omega (arith, pre.image_bound.0, collections.reads _ pre.image), omega (arith, pre.image_bound.1, promotions.reads _ pre.image));
-    }
+pub restart-requires-clause-image : goal.restart-requires-clause-image
+restart-requires-clause-image c = next-image c.clear_young_barrier.ensures c.requires.image
 
 pub returns : goal.returns
 returns c =
