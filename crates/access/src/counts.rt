@@ -6,37 +6,26 @@ ghost use Rattle.theorems.specs.Fit.{Image};
 ghost use Rattle.value.specs.Value.{value_cell};
 ghost use Rattle.barrier.specs.Counts.{barrier_of};
 ghost use Rattle.fields.specs.Fields.{Turns, bar_of, on_bar};
-ghost use Rattle.access.specs.Counting.{crosses, count_of, recounted, on_counts, Leaves};
+ghost use Rattle.access.specs.Counting.{count_of, recounted, on_counts, Leaves};
 
 use barrier::WriteBarrier;
 use image::formed::Formed;
 use question::Question;
 use value::Value;
 
-// Whether a value of heap `own` counts: only a pointer to the other heap does.
-fn crosses(own: u8, v: Value) -> bool
-    ensures { result ≡ crosses own (value_cell v) }
-{
-    let Value::Pointer(p) = v else {
-        return false;
-    };
-    p.heap != own
-}
-
 // The count of a value that counts, stored as `b` has it. An absent barrier has none.
 fn store_count(image: &mut [u64], own: u8, v: Value, b: &WriteBarrier)
     requires { Image image.old (decode image.old) }
     ensures { Turns (λ h. on_bar own (count_of own (value_cell v) (barrier_of b.now) (bar_of own h)) h) image.old image.new }
 {
-    let Value::Pointer(p) = v else {
+    let Some(p) = v.crossing(own) else {
         return;
     };
-    if p.heap == own || !b.present {
+    if !b.present {
         return;
     }
     let at = WriteBarrier::place(p.base);
-    let n = b.counts[at];
-    fields::put_count(image, own, at, n as u64);
+    fields::put_count(image, own, at, u64::from(b.counts[at]));
 }
 
 // The old value counted out, then the new one in. Nothing is stored before both steps have got their answer.
@@ -56,7 +45,7 @@ pub fn recount(image: &mut [u64], own: u8, old: Value, new: Value) -> Result<(),
     requires { Image image.old (decode image.old) }
     ensures { Leaves (on_counts own (recounted own (value_cell old) (value_cell new)) (decode image.old)) image.old result image.new }
 {
-    if crosses(own, old) || crosses(own, new) {
+    if old.crossing(own).is_some() || new.crossing(own).is_some() {
         return count_both(image, own, old, new);
     }
     Ok(())

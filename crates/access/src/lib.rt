@@ -40,22 +40,20 @@ fn young_value(image: Formed<'_>, i: usize) -> Value
     cell_value(fields::young_cell(image, i))
 }
 
-fn read_young(image: Formed<'_>, base: u64, offset: i64) -> Result<Value, Question>
-    ensures { Loads (read (decode image.entry.words.now) (pointer 0 base (of_z w64 offset))) result }
+fn read_young(image: Formed<'_>, p: Pointer) -> Result<Value, Question>
+    ensures { Loads (read (decode image.entry.words.now) (pointer 0 p.base (of_z w64 p.offset))) result }
 {
     let n = fields::header_of(image).sizes.n as usize;
-    let i = places::index(base, offset, n)?;
+    let i = places::index(p, n)?;
     Ok(young_value(image, i))
 }
 
 // A negative offset's word is above every length, and so outside the allocation.
-fn read_old(image: Formed<'_>, base: u64, offset: i64) -> Result<Value, Question>
-    ensures { Loads (read (decode image.entry.words.now) (pointer 1 base (of_z w64 offset))) result }
+fn read_old(image: Formed<'_>, p: Pointer) -> Result<Value, Question>
+    ensures { Loads (read (decode image.entry.words.now) (pointer 1 p.base (of_z w64 p.offset))) result }
 {
-    let o = offset.cast_unsigned();
-    let Some(cell) = layout::read_elder(image, base, o) else {
-        return Err(Question::Access);
-    };
+    let offset = p.offset.cast_unsigned();
+    let cell = layout::read_elder(image, p.base, offset).ok_or(Question::Access)?;
     Ok(cell_value(cell))
 }
 
@@ -63,10 +61,9 @@ fn read_old(image: Formed<'_>, base: u64, offset: i64) -> Result<Value, Question
 pub fn read_formed(image: Formed<'_>, p: Pointer) -> Result<Value, Question>
     ensures { Loads (read (decode image.entry.words.now) (pointer_of p)) result }
 {
-    let heap = p.heap;
-    match heap {
-        0 => read_young(image, p.base, p.offset),
-        1 => read_old(image, p.base, p.offset),
+    match p.heap {
+        0 => read_young(image, p),
+        1 => read_old(image, p),
         _ => Err(Question::Access),
     }
 }
@@ -114,45 +111,39 @@ fn store_young(image: &mut [u64], i: usize, cell: &[u64]) -> Result<(), Question
     Ok(())
 }
 
-fn write_young(image: &mut [u64], base: u64, offset: i64, cell: &[u64]) -> Result<(), Question>
+fn write_young(image: &mut [u64], p: Pointer, cell: &[u64]) -> Result<(), Question>
     requires image { Image image.old (decode image.old) }
     requires cell_value { value_good cell.now ≡ true }
-    ensures { Leaves (write (decode image.old) (pointer 0 base (of_z w64 offset)) (cell_in cell.now)) image.old result image.new }
+    ensures { Leaves (write (decode image.old) (pointer 0 p.base (of_z w64 p.offset)) (cell_in cell.now)) image.old result image.new }
 {
     let n = fields::header_of(Formed { words: image }).sizes.n as usize;
-    let i = places::index(base, offset, n)?;
+    let i = places::index(p, n)?;
     store_young(image, i, cell)
 }
 
 // ---- In the elder
 
-// The cell takes the place of the old one at (base, offset), which is there.
-fn store_old(
-    image: &mut [u64],
-    base: u64,
-    offset: u64,
-    old: Value,
-    cell: &[u64],
-) -> Result<(), Question>
+// The cell takes the place of the old one at the pointer, which is there.
+fn store_old(image: &mut [u64], p: Pointer, old: Value, cell: &[u64]) -> Result<(), Question>
     requires image { Image image.old (decode image.old) }
-    requires offset_in_bounds { offset < length (get_or (decode image.old).old.slots base []) }
-    requires value { value_cell old ≡ get_or (get_or (decode image.old).old.slots base []) offset blank }
+    requires offset_in_bounds { of_z w64 p.offset < length (get_or (decode image.old).old.slots p.base []) }
+    requires value { value_cell old ≡ get_or (get_or (decode image.old).old.slots p.base []) (of_z w64 p.offset) blank }
     requires cell_value { value_good cell.now ≡ true }
-    ensures { Leaves (store_old base (get_or (decode image.old).old.slots base []) offset (cell_in cell.now) (decode image.old)) image.old result image.new }
+    ensures { Leaves (store_old p.base (get_or (decode image.old).old.slots p.base []) (of_z w64 p.offset) (cell_in cell.now) (decode image.old)) image.old result image.new }
 {
     let new = new_value(cell);
     counts::recount(image, 1, old, new)?;
-    layout::write_elder(image, base, offset, cell);
+    layout::write_elder(image, p.base, p.offset.cast_unsigned(), cell);
     Ok(())
 }
 
-fn write_old(image: &mut [u64], base: u64, offset: i64, cell: &[u64]) -> Result<(), Question>
+fn write_old(image: &mut [u64], p: Pointer, cell: &[u64]) -> Result<(), Question>
     requires image { Image image.old (decode image.old) }
     requires cell_value { value_good cell.now ≡ true }
-    ensures { Leaves (write (decode image.old) (pointer 1 base (of_z w64 offset)) (cell_in cell.now)) image.old result image.new }
+    ensures { Leaves (write (decode image.old) (pointer 1 p.base (of_z w64 p.offset)) (cell_in cell.now)) image.old result image.new }
 {
-    let old = read_old(Formed { words: image }, base, offset)?;
-    store_old(image, base, offset.cast_unsigned(), old, cell)
+    let old = read_old(Formed { words: image }, p)?;
+    store_old(image, p, old, cell)
 }
 
 // There is no other heap.
@@ -163,10 +154,9 @@ pub fn write_formed(image: &mut [u64], p: Pointer, cell: &[u64]) -> Result<(), Q
     if !image::value_ok(cell) {
         return Err(Question::Cells);
     }
-    let heap = p.heap;
-    match heap {
-        0 => write_young(image, p.base, p.offset, cell),
-        1 => write_old(image, p.base, p.offset, cell),
+    match p.heap {
+        0 => write_young(image, p, cell),
+        1 => write_old(image, p, cell),
         _ => Err(Question::Access),
     }
 }

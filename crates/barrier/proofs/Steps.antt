@@ -1,22 +1,23 @@
 -- A count step against the model's.
 use mathlib.Core.Path.{◌≡◌, refl, ap, ◌∙◌}
-use mathlib.Core.Bool.{Bool, true, false}
+use mathlib.Core.Bool.{Bool, true, false, not}
 use Prim.Native.Nat.{ℕ, ◌+◌, ◌-◌, ◌%◌, ◌^◌, ◌<◌, ◌≤◌}
 use native.Mathlib.Omega.{arith}
 use native.Mathlib.Numerals.{add-one}
 use lib.Dec.{eqb}
 use lib.ListN.{get_or, set, replicate}
-use borrow.Author.Tests.{lt-ltb, le-ltb, eq-eqb, ne_eqb}
-use Rattle.std.proofs.Common.{Option, Some, None, Ok, Err}
-use Rattle.std.specs.Option.{SomeIff, ok_or}
-use Rattle.question.specs.declared.Question.{Question}
+use borrow.Author.Tests.{lt-ltb, le-ltb}
+use mir.Syntax.{w64}
+use mir.Val.{of_z}
+use Rattle.std.proofs.Common.{Some, None}
+use Rattle.std.specs.Bool.{then_some}
 use Rattle.model.specs.Res.{Res, ok, refuse}
 use Rattle.model.specs.Records.{Ptr, Cell, plain, ref, blank}
 use Rattle.model.specs.Barrier.{Barrier, cache, most, counts, count, up, down, count_in, count_out}
 use Rattle.value.specs.declared.Pointer.{Pointer}
 use Rattle.value.specs.declared.Value.{Value}
 use Rattle.value.specs.declared.Value.TheVariants.{Uninitialized, Int, Bool as BoolV, Float as FloatV, Char, Pointer as PointerV}
-use Rattle.value.specs.Value.{value_cell}
+use Rattle.value.specs.Value.{value_cell, crossing}
 use Rattle.barrier.specs.declared.WriteBarrier.{WriteBarrier}
 use Rattle.barrier.specs.Counts.{barrier_if, barrier_of, step_of}
 
@@ -33,6 +34,9 @@ pub steps-out : (own : ℕ) → Steps own (count_out own) down
 unfolding count_out
 steps-out own = record { of_plain = λ k v b. refl; of_ref = λ p b. refl }
 
+abbrev pointer : Pointer → Ptr
+pointer p = record { heap = p.heap; base = p.base; off = of_z w64 p.offset }
+
 abbrev step_at : Bool → ℕ → Barrier → Res Barrier
 step_at true = up
 step_at false = down
@@ -43,32 +47,33 @@ steps_of true = steps-in
 steps_of false = steps-out
 
 module _ {own : ℕ} {f : Cell → Barrier → Res Barrier} {g : ℕ → Barrier → Res Barrier} (s : Steps own f g) (b : Barrier) where
-  pub step-plain : (v : Value) → ((p : Pointer) → v ≡ PointerV p → ⊥) → ok b ≡ f (value_cell v) b
-  unfolding value_cell blank
-  step-plain Uninitialized h = s.of_plain _ _ b
-  step-plain (Int x) h = s.of_plain _ _ b
-  step-plain (BoolV x) h = s.of_plain _ _ b
-  step-plain (FloatV n x) h = s.of_plain _ _ b
-  step-plain (Char x) h = s.of_plain _ _ b
-  step-plain (PointerV p) h = absurd (h p refl)
+  -- where no pointer crosses, nothing is counted
+  pub step-none : (v : Value) → None ≡ crossing own v → ok b ≡ f (value_cell v) b
+  unfolding value_cell blank crossing
+  step-none Uninitialized h = s.of_plain _ _ b
+  step-none (Int x) h = s.of_plain _ _ b
+  step-none (BoolV x) h = s.of_plain _ _ b
+  step-none (FloatV n x) h = s.of_plain _ _ b
+  step-none (Char x) h = s.of_plain _ _ b
+  step-none (PointerV p) h = go (eqb p.heap own) h (s.of_ref (pointer p) b)
+    where
+      go : (t : Bool) → None ≡ then_some (not t) p → elim t [ true ↦ ok b | false ↦ g (p.base % 256) b ] ≡ f (ref (pointer p)) b → ok b ≡ f (ref (pointer p)) b
+      go true n e = e
+      go false n e = absurd cc
 
-  module _ (v : Value) (p : Pointer) (e : v ≡ PointerV p) where
-    pub step-own : p.heap ≡ own → ok b ≡ f (value_cell v) b
-    unfolding value_cell
-    step-own h = rw (e, ← s.of_ref, eq-eqb _ _ h)
-
-    pub step_other : (p.heap ≡ own → ⊥) → (k : ℕ) → k ≡ p.base % 256 → g k b ≡ f (value_cell v) b
-    unfolding value_cell
-    step_other h k at = rw (e, ← s.of_ref, ne_eqb _ _ h, at)
-
--- what `checked` sums and `ok_or` came to
-pub none_of : {P : Type 0} (v : ℕ) (x : Option ℕ) (q e : Question) → SomeIff x P v → ok_or x q ≡ Err e → (P → ⊥) × (e ≡ q)
-none_of v None q e s h = (s, cc)
-none_of v (Some y) q e s h = absurd cc
-
-pub some_of : {P : Type 0} {v : ℕ} (x : Option ℕ) (q : Question) (n : ℕ) → SomeIff x P v → ok_or x q ≡ Ok n → P × (n ≡ v)
-some_of None q n s h = absurd cc
-some_of (Some y) q n (p, e) h = (p, cc)
+  -- where one does, it is counted at its place
+  pub step_some : (v : Value) (p : Pointer) → Some p ≡ crossing own v → (k : ℕ) → k ≡ p.base % 256 → g k b ≡ f (value_cell v) b
+  unfolding value_cell blank crossing
+  step_some Uninitialized p h k at = absurd cc
+  step_some (Int x) p h k at = absurd cc
+  step_some (BoolV x) p h k at = absurd cc
+  step_some (FloatV n x) p h k at = absurd cc
+  step_some (Char x) p h k at = absurd cc
+  step_some (PointerV q) p h k at = go (eqb q.heap own) h (s.of_ref (pointer q) b)
+    where
+      go : (t : Bool) → Some p ≡ then_some (not t) q → elim t [ true ↦ ok b | false ↦ g (q.base % 256) b ] ≡ f (ref (pointer q)) b → g k b ≡ f (ref (pointer q)) b
+      go true n e = absurd cc
+      go false n e = let is : p ≡ q = cc in rw (at, is) e
 
 -- a present barrier with b's counts
 pub record Opened (b s : WriteBarrier) : Type 0 where

@@ -1,17 +1,20 @@
 -- Cells counted one after the other: the loop's turns.
 use mathlib.Core.Path.{◌≡◌, refl, sym, ap, ◌∙◌}
 use mathlib.Core.Bool.{Bool, true, false, not, ◌&&◌, ◌||◌, true≢false}
-use mathlib.Core.List.{List, [], ◌∷◌, ◌++◌}
-use Prim.Native.Nat.{ℕ, ◌%◌, ◌/◌, ◌<◌}
+use mathlib.Core.List.{List, [], ◌∷◌, map}
+use Prim.Native.Nat.{ℕ, zero, suc, ◌%◌, ◌/◌, ◌+◌, ◌<◌, ◌≤◌}
+use native.Mathlib.Numerals.{add-one}
 use native.Mathlib.Omega.{arith}
 use lib.Dec.{eqb}
-use lib.ListN.{length, get_or}
+use lib.ListN.{length, get_or, drop, drop_of_length-le}
+use lib.Seq.{drop-cons}
 use Rattle.std.proofs.Common.{Result, Ok, Err}
+use Rattle.std.specs.Simd.{first_chunks}
 use Rattle.model.specs.Res.{Res, ok, refuse, ◌>>=◌, each}
 use Rattle.model.specs.Records.{Cell, cell_if, cell_of, cells_of, valid_words, whole_cells}
 use Rattle.model.specs.Barrier.{Barrier}
 use Rattle.model.specs.Calls.{cells_in}
-use Rattle.theorems.proofs.Lists.{and_parts}
+use Rattle.theorems.proofs.Lists.{and_parts, and_both}
 use Rattle.theorems.proofs.Cells.{in-cons}
 use Rattle.value.specs.declared.Value.{Value}
 use Rattle.value.specs.Value.{value_cell, Spelled}
@@ -32,54 +35,29 @@ skip {own} {f} s a x o b = go (eqb (a % 256) 5) (eqb (a / 256) own) refl
     go true false e h = absurd (true≢false h)
     go false u e h = sym (s.of_plain a x b)
 
--- a cell, three words, and those behind it
+-- the three words of a cell that crosses, and of one of these
 
-parted : (x t : List ℕ) → length x ≡ 3 → x ++ t ≡ get_or x 0 0 ∷ get_or x 1 0 ∷ get_or x 2 0 ∷ t
-parted [] t h = absurd (omega arith)
-parted (a ∷ []) t h = absurd (omega arith)
-parted (a ∷ b ∷ []) t h = absurd (omega arith)
-parted (a ∷ b ∷ c ∷ []) t h = refl
-parted (a ∷ b ∷ c ∷ d ∷ x) t h = absurd (omega arith)
+abbrev pub crossing_cell : ℕ → List ℕ → Bool
+crossing_cell own ws = crossing (get_or ws 0 0) own
 
-none-left : (r : List ℕ) → whole_cells r ≡ true → length r < 3 → r ≡ []
-unfolding whole_cells
-none-left [] e h = refl
-none-left (a ∷ []) e h = absurd (true≢false (sym e))
-none-left (a ∷ b ∷ []) e h = absurd (true≢false (sym e))
-none-left (a ∷ b ∷ c ∷ r) e h = absurd (omega arith)
+abbrev pub crossing_cells : ℕ → List (List ℕ) → Bool
+crossing_cells own [] = false
+crossing_cells own (ws ∷ rest) = crossing_cell own ws || crossing_cells own rest
 
--- the cells r are left, n words each, and t behind the next, x
-module _ {n : ℕ} (size : n ≡ 3) {r : List ℕ} (whole : whole_cells r ≡ true) (x t : List ℕ) (is : r ≡ x ++ t) (long : length x ≡ n) where
-  here : r ≡ get_or x 0 0 ∷ get_or x 1 0 ∷ get_or x 2 0 ∷ t
-  here = is ∙ parted x t (long ∙ size)
+cut : (own k : ℕ) (w : List ℕ) → length w / 3 ≡ k → any_crossing own w ≡ crossing_cells own (first_chunks 3 k w)
+unfolding any_crossing
+cut own zero [] h = refl
+cut own zero (a ∷ []) h = refl
+cut own zero (a ∷ x ∷ []) h = refl
+cut own zero (a ∷ x ∷ o ∷ w) h = absurd (omega arith)
+cut own (suc k) [] h = absurd (omega arith)
+cut own (suc k) (a ∷ []) h = absurd (omega arith)
+cut own (suc k) (a ∷ x ∷ []) h = absurd (omega arith)
+cut own (suc k) (a ∷ x ∷ o ∷ w) h = rw (cut own k w (omega arith)) refl
 
-  both : (valid_words (get_or x 0 0) (get_or x 1 0) (get_or x 2 0) ≡ true) × (whole_cells t ≡ true)
-  unfolding whole_cells
-  both = and_parts _ _ (rw here at whole)
-
--- no cell before these crosses
-
-pub record Seeking (own : ℕ) (w : List ℕ) (n : ℕ) (r : List ℕ) : Type 0 where
-  pub size : n ≡ 3
-  pub cells : whole_cells r ≡ true
-  pub rest : any_crossing own r ≡ any_crossing own w
-
-module _ (own : ℕ) (w : List ℕ) where
-  module _ {n : ℕ} {r : List ℕ} (s : Seeking own w n r) where
-    pub seek-ended : length r < n → false ≡ any_crossing own w
-    unfolding any_crossing
-    seek-ended h = rw (none-left r s.cells (rw s.size at h)) at s.rest
-
-    module _ (x t : List ℕ) (is : r ≡ x ++ t) (long : length x ≡ n) where
-      next-seen : (crossing (get_or x 0 0) own || any_crossing own t) ≡ any_crossing own w
-      unfolding any_crossing
-      next-seen = rw (here s.size s.cells x t is long) at s.rest
-
-      pub seek_found : crossing (get_or x 0 0) own ≡ true → true ≡ any_crossing own w
-      seek_found e = rw e at next-seen
-
-      pub seek-on : {m : ℕ} → m ≡ n → crossing (get_or x 0 0) own ≡ false → Seeking own w m t
-      seek-on k e = record { size = k ∙ s.size; cells = (both s.size s.cells x t is long).1; rest = rw e at next-seen }
+-- as the code cuts them
+pub crossing-cut : (own : ℕ) (w : List ℕ) → any_crossing own w ≡ crossing_cells own (first_chunks 3 (length w / 3) w)
+crossing-cut own w = cut own (length w / 3) w refl
 
 neither : (s t : Bool) → (s || t) ≡ false → (s ≡ false) × (t ≡ false)
 neither false t e = (refl, e)
@@ -100,42 +78,75 @@ quiet {own} {f} s (a ∷ x ∷ o ∷ w) h e b =
     let step : f (cell_of a x o) b ≡ ok b = skip s a x o b here in
     rw (in-cons a x o w, step) (quiet s w (and_parts (valid_words a x o) (whole_cells w) h).1 behind b)
 
--- the cells r, counted in b, are what is left of all of them, counted in b₀
-pub record Left (f : Cell → Barrier → Res Barrier) (w : List ℕ) (b₀ : Barrier) (n : ℕ) (r : List ℕ) (b : Barrier) : Type 0 where
-  pub size : n ≡ 3
-  pub cells : whole_cells r ≡ true
-  pub rest : each f (cells_in r) b ≡ each f (cells_in w) b₀
+-- the cell of three words, and the cells of these
 
-abbrev first_cell : List ℕ → Cell
-first_cell x = cell_of (get_or x 0 0) (get_or x 1 0) (get_or x 2 0)
+abbrev pub three_cell : List ℕ → Cell
+three_cell ws = cell_of (get_or ws 0 0) (get_or ws 1 0) (get_or ws 2 0)
 
-module _ (f : Cell → Barrier → Res Barrier) (w : List ℕ) (b₀ : Barrier) where
-  pub begin : whole_cells w ≡ true → Left f w b₀ 3 w b₀
-  begin h = record { size = refl; cells = h; rest = refl }
+abbrev valid_cells : List (List ℕ) → Bool
+valid_cells [] = true
+valid_cells (ws ∷ rest) = valid_words (get_or ws 0 0) (get_or ws 1 0) (get_or ws 2 0) && valid_cells rest
 
-  module _ {n : ℕ} {r : List ℕ} {b : Barrier} (l : Left f w b₀ n r b) where
-    pub ended : length r < n → ok b ≡ each f (cells_in w) b₀
-    unfolding cells_in cells_of
-    ended h = rw (none-left r l.cells (rw l.size at h)) at l.rest
+module _ (w : List ℕ) where
+  pub triples-valid : whole_cells w ≡ true → valid_cells (first_chunks 3 (length w / 3) w) ≡ true
+  unfolding whole_cells
+  triples-valid = go (length w / 3) w refl
+    where
+      go : (k : ℕ) (w : List ℕ) → length w / 3 ≡ k → whole_cells w ≡ true → valid_cells (first_chunks 3 k w) ≡ true
+      go zero w h e = refl
+      go (suc k) [] h e = absurd (omega arith)
+      go (suc k) (a ∷ []) h e = absurd (omega arith)
+      go (suc k) (a ∷ x ∷ []) h e = absurd (omega arith)
+      go (suc k) (a ∷ x ∷ o ∷ w) h e = let (here, behind) = and_parts (valid_words a x o) (whole_cells w) e in and_both _ _ here (go k w (omega arith) behind)
 
-    module _ (x t : List ℕ) (is : r ≡ x ++ t) (long : length x ≡ n) where
-      pub valid-here : valid_words (get_or x 0 0) (get_or x 1 0) (get_or x 2 0) ≡ true
-      valid-here = (both l.size l.cells x t is long).0
+  pub triples-cells : map three_cell (first_chunks 3 (length w / 3) w) ≡ cells_in w
+  unfolding cells_in cells_of
+  triples-cells = go (length w / 3) w refl
+    where
+      go : (k : ℕ) (w : List ℕ) → length w / 3 ≡ k → map three_cell (first_chunks 3 k w) ≡ cells_of k w
+      go zero w h = refl
+      go (suc k) [] h = absurd (omega arith)
+      go (suc k) (a ∷ []) h = absurd (omega arith)
+      go (suc k) (a ∷ x ∷ []) h = absurd (omega arith)
+      go (suc k) (a ∷ x ∷ o ∷ w) h = ap (cell_of a x o ∷◌) (go k w (omega arith))
 
-      next : (f (first_cell x) b >>= each f (cells_in t)) ≡ each f (cells_in w) b₀
-      next = rw (here l.size l.cells x t is long, in-cons) at l.rest
+-- the cells from i on, counted in b, are what is left of all of them, counted in b₀
+pub record Left (f : Cell → Barrier → Res Barrier) (ts : List (List ℕ)) (b₀ : Barrier) (i : ℕ) (b : Barrier) : Type 0 where
+  pub cells : valid_cells (drop i ts) ≡ true
+  pub rest : each f (map three_cell (drop i ts)) b ≡ each f (map three_cell ts) b₀
 
-      module _ {m : ℕ} (same : m ≡ n) where
-        on : (c : Barrier) → f (first_cell x) b ≡ ok c → Left f w b₀ m t c
-        on c e = record { size = same ∙ l.size; cells = (both l.size l.cells x t is long).1; rest = rw e at next }
+module _ (f : Cell → Barrier → Res Barrier) (ts : List (List ℕ)) (b₀ : Barrier) where
+  pub begin : valid_cells ts ≡ true → Left f ts b₀ 0 b₀
+  begin h = record { cells = h; rest = refl }
 
-        pub turn-skip : {own : ℕ} {g : ℕ → Barrier → Res Barrier} → Steps own f g → crossing (get_or x 0 0) own ≡ false → Left f w b₀ m t b
-        turn-skip s e = on b (skip s _ _ _ b e)
+  module _ {i : ℕ} {b : Barrier} (l : Left f ts b₀ i b) where
+    pub ended : length ts ≤ i → ok b ≡ each f (map three_cell ts) b₀
+    ended h = let none : drop i ts ≡ [] = drop_of_length-le ts {i = i} h in rw none at l.rest
 
-        pub turn-done : (v : Value) (a : Result WriteBarrier Question) → Spelled (get_or x 0 0) (get_or x 1 0) (get_or x 2 0) v → answer barrier_of a ≡ f (value_cell v) b → (d : WriteBarrier) → a ≡ Ok d → Left f w b₀ m t (barrier_of d)
-        turn-done v a s e d k = on (barrier_of d) (ap (λ (x : Cell). f x b) (sym s.cell) ∙ sym e ∙ rw k)
+    module _ (h : i < length ts) where
+      here : drop i ts ≡ get_or ts i [] ∷ drop (i + 1) ts
+      here = rw add-one (drop-cons ts i [] h)
 
-      pub turn-refused : (v : Value) (a : Result WriteBarrier Question) → Spelled (get_or x 0 0) (get_or x 1 0) (get_or x 2 0) v → answer barrier_of a ≡ f (value_cell v) b → (q : Question) → a ≡ Err q → refuse (number q) ≡ each f (cells_in w) b₀
-      turn-refused v a s e q k =
-          let no : f (first_cell x) b ≡ refuse (number q) = ap (λ (x : Cell). f x b) (sym s.cell) ∙ sym e ∙ rw k in
-          rw no at next
+      both : (valid_words (get_or (get_or ts i []) 0 0) (get_or (get_or ts i []) 1 0) (get_or (get_or ts i []) 2 0) ≡ true) × (valid_cells (drop (i + 1) ts) ≡ true)
+      both = and_parts _ _ (rw here at l.cells)
+
+      pub valid-here : valid_words (get_or (get_or ts i []) 0 0) (get_or (get_or ts i []) 1 0) (get_or (get_or ts i []) 2 0) ≡ true
+      valid-here = both.0
+
+      next : (f (three_cell (get_or ts i [])) b >>= each f (map three_cell (drop (i + 1) ts))) ≡ each f (map three_cell ts) b₀
+      next = rw here at l.rest
+
+      on : (c : Barrier) → f (three_cell (get_or ts i [])) b ≡ ok c → Left f ts b₀ (i + 1) c
+      on c e = record { cells = both.1; rest = rw e at next }
+
+      pub turn-skip : {own : ℕ} {g : ℕ → Barrier → Res Barrier} → Steps own f g → crossing (get_or (get_or ts i []) 0 0) own ≡ false → Left f ts b₀ (i + 1) b
+      turn-skip s e = on b (skip s _ _ _ b e)
+
+      module _ (v : Value) (a : Result WriteBarrier Question) (is : Spelled (get_or (get_or ts i []) 0 0) (get_or (get_or ts i []) 1 0) (get_or (get_or ts i []) 2 0) v) (e : answer barrier_of a ≡ f (value_cell v) b) where
+        pub turn-done : (d : WriteBarrier) → a ≡ Ok d → Left f ts b₀ (i + 1) (barrier_of d)
+        turn-done d k = on (barrier_of d) (ap (λ (x : Cell). f x b) (sym is.cell) ∙ sym e ∙ rw k)
+
+        pub turn-refused : (q : Question) → a ≡ Err q → refuse (number q) ≡ each f (map three_cell ts) b₀
+        turn-refused q k =
+            let no : f (three_cell (get_or ts i [])) b ≡ refuse (number q) = ap (λ (x : Cell). f x b) (sym is.cell) ∙ sym e ∙ rw k in
+            rw no at next

@@ -14,20 +14,15 @@ use value::Words;
 fn crosses(tag: u64, own: u8) -> bool
     ensures { result ≡ crossing tag own }
 {
-    tag % value::HEAP_STEP == value::POINTER && tag / value::HEAP_STEP != own as u64
+    value::heap_of(tag).is_some_and(|heap| heap != u64::from(own))
 }
 
 // Whether some cell counts. Where none does, the barrier, which is long, need not be handed on.
 pub fn any_crosses(cells: &[u64], own: u8) -> bool
-    requires { whole_cells cells.now ≡ true }
     ensures { result ≡ any_crossing own cells.now }
 {
-    for cell in cells.chunks_exact(3) {
-        if crosses(cell[0], own) {
-            return true;
-        }
-    }
-    false
+    let (triples, _) = cells.as_chunks::<3>();
+    triples.iter().any(|c| crosses(c[0], own))
 }
 
 // Each counted in if `into`, else out.
@@ -41,10 +36,10 @@ pub fn count_cells(
     requires { whole_cells cells.now ≡ true }
     ensures { answer barrier_of result ≡ each (step_of into own) (cells_in cells.now) (barrier_of barrier) }
 {
-    for words in cells.chunks_exact(3) {
-        if crosses(words[0], own) {
-            let cell = Words::at(words, 0);
-            barrier = barrier.count(own, into, cell.value())?;
+    let (triples, _) = cells.as_chunks::<3>();
+    for cell in triples {
+        if crosses(cell[0], own) {
+            barrier = barrier.count(own, into, Words::from(*cell).value())?;
         }
     }
     Ok(barrier)

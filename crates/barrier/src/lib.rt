@@ -18,7 +18,7 @@ use value::Value;
 // copies them. `present` stands beside them: an Option of the array would be copied as a whole too, and is no plainer.
 #[derive(Clone, Copy)]
 pub struct WriteBarrier {
-    pub counts: [u32; 256],
+    pub counts: [u32; WriteBarrier::SIZE],
     pub present: bool,
 }
 
@@ -48,12 +48,9 @@ impl WriteBarrier {
     pub fn count_in(mut self, own: u8, v: Value) -> Result<Self, Question>
         ensures { answer barrier_of result ≡ count_in own (value_cell v) (barrier_of self) }
     {
-        let Value::Pointer(p) = v else {
+        let Some(p) = v.crossing(own) else {
             return Ok(self);
         };
-        if p.heap == own {
-            return Ok(self);
-        }
         if !self.present {
             self.counts = [0u32; WriteBarrier::SIZE];
             self.present = true;
@@ -68,10 +65,10 @@ impl WriteBarrier {
     pub fn count_out(mut self, own: u8, v: Value) -> Result<Self, Question>
         ensures { answer barrier_of result ≡ count_out own (value_cell v) (barrier_of self) }
     {
-        let Value::Pointer(p) = v else {
+        let Some(p) = v.crossing(own) else {
             return Ok(self);
         };
-        if p.heap == own || !self.present {
+        if !self.present {
             return Ok(self);
         }
         let at = WriteBarrier::place(p.base);

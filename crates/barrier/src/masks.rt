@@ -8,7 +8,7 @@ use crate::WriteBarrier;
 // The first `count` places. There is no heap, so they stand in an array with their number, of which `few` is the bound.
 #[derive(Clone, Copy)]
 pub struct Masks {
-    places: [u64; 256],
+    places: [u64; WriteBarrier::SIZE],
     count: usize,
     ghost few: { count ≤ 256 },
 }
@@ -20,9 +20,9 @@ impl Masks {
         let mut places = [0u64; WriteBarrier::SIZE];
         let mut count = 0;
         if barrier.present {
-            for i in 0..WriteBarrier::SIZE {
-                if 0 < barrier.counts[i] {
-                    places[count] = i as u64;
+            for (place, n) in barrier.counts.iter().enumerate() {
+                if 0 < *n {
+                    places[count] = place as u64;
                     count += 1;
                 }
             }

@@ -9,7 +9,7 @@ use crate::WriteBarrier;
 
 // Count words as counts, and back, where they stand: an array made anew would be copied. By index: nothing is known of what `zip` of an
 // `iter_mut` has written.
-fn narrow(words: &[u64], counts: &mut [u32; 256])
+fn narrow(words: &[u64], counts: &mut [u32; WriteBarrier::SIZE])
     requires { (length words.now ≡ cache) × (all_at_most most words.now ≡ true) }
     ensures { counts.new ≡ words.now }
 {
@@ -18,7 +18,7 @@ fn narrow(words: &[u64], counts: &mut [u32; 256])
     }
 }
 
-fn widen(from: &[u32; 256], words: &mut [u64])
+fn widen(from: &[u32; WriteBarrier::SIZE], words: &mut [u64])
     requires { length words.old ≡ cache }
     ensures { words.new ≡ from.now }
 {

@@ -75,7 +75,7 @@ fn alloc_in(
     if image.is_empty() {
         return Err(Question::Heap);
     }
-    let mut roots = <[u64; 48]>::from(&*registers);
+    let mut roots = <[u64; Registers::WORDS]>::from(&*registers);
     let a = collector::alloc_formed(image, &mut roots, scratch, amount)?;
     *registers = Registers::from_words(&roots);
     registers.set(register, Value::Pointer(a.pointer));
@@ -118,8 +118,7 @@ fn store_in(image: &mut [u64], registers: &Registers, a: Access) -> Result<Answe
     if image.is_empty() {
         return Err(Question::Heap);
     }
-    let w = Words::from(registers.get(a.register as usize));
-    let cell = [w.tag, w.payload, w.offset];
+    let cell = <[u64; 3]>::from(Words::from(registers.get(a.register as usize)));
     let p = target_of(registers.get(a.pointer as usize), a.offset)?;
     access::write_formed(image, p, &cell)?;
     Ok(Answer::Store)

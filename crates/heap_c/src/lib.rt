@@ -146,8 +146,7 @@ impl Words<3> for Value {
     ghost words = { λ v. cell_words (value_cell v ∷ []) };
 
     fn to_words(self) -> [u64; 3] {
-        let w = value::Words::from(self);
-        [w.tag, w.payload, w.offset]
+        value::Words::from(self).into()
     }
 }
 

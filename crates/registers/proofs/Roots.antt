@@ -1,63 +1,33 @@
 -- Registers and the roots' words, three words a register at each turn.
-use mathlib.Core.Path.{◌≡◌, sym, ap, ◌∙◌}
+use mathlib.Core.Path.{◌≡◌, refl, sym, ap, ◌∙◌}
 use mathlib.Core.Bool.{true}
-use mathlib.Core.List.{List, [], ◌∷◌, ◌++◌, append-nil, append_assoc}
+use mathlib.Core.List.{List, [], ◌∷◌, ◌++◌, map, append-nil}
 use Prim.Native.Nat.{ℕ, suc, ◌+◌, ◌*◌, ◌≤◌, ◌<◌}
 use native.Mathlib.Omega.{arith}
 use native.Mathlib.Numerals.{add-one}
 use lib.ListN.{length, get_or, take, drop, set, length-set, drop_of_length-le}
 use lib.Seq.{drop-cons, append_snoc, take_all, take-suc-set}
-use Rattle.model.specs.Records.{Cell, blank, cell_words, cells_of, valid_words, whole_cells}
+use Rattle.std.specs.List.{flat_map}
+use Rattle.model.specs.Records.{cell_words, cells_of, valid_words, whole_cells}
 use Rattle.model.specs.Calls.{cells_in}
 use Rattle.theorems.proofs.Cells.{words-cons, in-cons}
 use Rattle.theorems.proofs.Lists.{and_parts}
 use Rattle.value.specs.declared.Value.{Value}
 use Rattle.value.specs.Value.{value_cell, Spelled}
-use Rattle.value.proofs.RoundTrip.{three-words}
 use Rattle.registers.specs.declared.Registers.{Registers}
-use Rattle.registers.specs.Cells.{cells_of_registers, Good}
+use Rattle.registers.specs.Cells.{cells_of_registers, unset, Good}
 use Rattle.registers.proofs.Values.{spelled-good, set-cells, set-good}
 
--- three words stored after the first 3 * i
-three-stored : (w : List ℕ) (i a b o : ℕ) → 3 * i + 2 < length w → take (3 * (i + 1)) (set (set (set w (3 * i) a) (3 * i + 1) b) (3 * i + 2) o) ≡ take (3 * i) w ++ a ∷ b ∷ o ∷ []
-three-stored w i a b o h =
-    let e₁ : 3 * i + 1 ≡ suc (3 * i) = omega arith in
-    let e₂ : 3 * i + 2 ≡ suc (suc (3 * i)) = omega arith in
-    let e₃ : 3 * (i + 1) ≡ suc (suc (suc (3 * i))) = omega arith in
-    let u = set w (3 * i) a in
-    let t = set u (suc (3 * i)) b in
-    let one : 3 * i < length w = omega arith in
-    let two : suc (3 * i) < length u = omega (arith, length-set w (3 * i) a) in
-    let three : suc (suc (3 * i)) < length t = omega (arith, length-set w (3 * i) a, length-set u (suc (3 * i)) b) in
-    rw (e₁, e₂, e₃, take-suc-set t (suc (suc (3 * i))) o three, take-suc-set u (suc (3 * i)) b two, take-suc-set w (3 * i) a one) (simp append_assoc)
-
--- the words of the cells below i stand in w, and the cells from i on are left
-pub record Written (cs : List Cell) (i : ℕ) (w : List ℕ) : Type 0 where
-  pub within : i ≤ 16
-  pub room : length w ≡ 48
-  pub rest : take (3 * i) w ++ cell_words (drop i cs) ≡ cell_words cs
-
-module _ {cs : List Cell} {i : ℕ} {w : List ℕ} (l : length cs ≡ 16) (d : Written cs i w) where
-  module _ (h : i < 16) {x : Cell} (is : x ≡ get_or cs i blank) {a b o : ℕ} (ws : (a ∷ b ∷ o ∷ []) ≡ cell_words (x ∷ [])) where
-    next-words : cell_words (drop i cs) ≡ a ∷ b ∷ o ∷ cell_words (drop (i + 1) cs)
-    next-words =
-        let (first, second, third) = three-words x a b o ws in
-        rw (add-one, drop-cons cs i blank (omega arith), ← is, words-cons, first, second, third)
-
-    pub written-more : Written cs (i + 1) (set (set (set w (3 * i) a) (3 * i + 1) b) (3 * i + 2) o)
-    written-more =
-        record {
-          within = omega arith;
-          room = simp length-set d.room;
-          rest = rw (three-stored w i a b o (omega (arith, d.room)), append_assoc, ← next-words) d.rest;
-        }
-
-  pub written_all : 16 ≤ i → w ≡ cell_words cs
-  unfolding cell_words
-  written_all h =
-      let none : drop i cs ≡ [] = drop_of_length-le cs {i = i} (omega arith) in
-      let all : take (3 * i) w ≡ w = take_all (3 * i) w (omega (arith, d.room)) in
-      sym (append-nil w) ∙ (rw (none, all) at d.rest)
+-- the words of each register's cell, in a row
+pub cells-flat : (vs : List Value) (ws : List (List ℕ)) → length ws ≡ length vs → ((i : ℕ) → i < length vs → get_or ws i [] ≡ cell_words (value_cell (get_or vs i unset) ∷ []))
+    → flat_map (λ w. w) ws ≡ cell_words (map value_cell vs)
+unfolding cell_words
+cells-flat [] [] l e = refl
+cells-flat [] (w ∷ ws) l e = cc
+cells-flat (v ∷ vs) [] l e = cc
+cells-flat (v ∷ vs) (w ∷ ws) l e =
+    let rest = cells-flat vs ws (omega (arith, l)) (λ i h. e (suc i) (omega (arith, h))) in
+    rw (e 0 (omega arith), rest, words-cons (value_cell v) [], words-cons (value_cell v) (map value_cell vs)) refl
 
 -- the registers below i are those of w's first cells, and the cells from i on are left
 pub record Loaded (w : List ℕ) (s : Registers) (i : ℕ) : Type 0 where

@@ -1,20 +1,24 @@
 // The sixteen registers of the command program, Uninitialized at first: the roots.
 #![tactic(auto)]
 
-ghost use Rattle.std.specs.Prelude.{◌≡◌, true, ◌<◌, get_or, replicate, set};
+ghost use Rattle.std.specs.Prelude.{◌≡◌, true, [], ◌∷◌, ◌<◌, get_or, replicate, set};
 ghost use Rattle.model.specs.Records.{blank, cell_words, whole_cells};
 ghost use Rattle.model.specs.Calls.{cells_in};
+ghost use Rattle.value.specs.Value.{value_cell};
 ghost use Rattle.registers.specs.Cells.{unset, cells_of_registers, Good};
 
 use value::{Value, Words};
 
 #[derive(Clone, Copy)]
 pub struct Registers {
-    pub cells: [Value; 16],
+    pub cells: [Value; Registers::COUNT],
 }
 
 impl Registers {
     pub const COUNT: usize = 16;
+
+    // Three words a register.
+    pub const WORDS: usize = 3 * Registers::COUNT;
 
     pub fn new() -> Self
         ensures cells { cells_of_registers result ≡ replicate 16 blank }
@@ -40,7 +44,7 @@ impl Registers {
     }
 
     // The registers of words that are valid cells. `From` can't ask for that, and `TryFrom` would refuse what never comes.
-    pub fn from_words(w: &[u64; 48]) -> Self
+    pub fn from_words(w: &[u64; Registers::WORDS]) -> Self
         requires { whole_cells w.now ≡ true }
         ensures cells { cells_of_registers result ≡ cells_in w.now }
         ensures good { Good result }
@@ -53,19 +57,18 @@ impl Registers {
     }
 }
 
-// The roots: three words a register. They are stored one by one, since the library does not say what an array is once the chunks that
-// `as_chunks_mut` lends of it have ended.
-impl From<&Registers> for [u64; 48] {
+// The roots: three words a register.
+impl From<&Registers> for [u64; Registers::WORDS] {
     ghost from_gives = { λ s w. (w ≡ cell_words (cells_of_registers s.now)) × (Good s.now → whole_cells w ≡ true) };
 
-    fn from(s: &Registers) -> [u64; 48] {
-        let mut w = [0u64; 48];
-        for i in 0..Registers::COUNT {
-            let x = Words::from(s.get(i));
-            w[3 * i] = x.tag;
-            w[3 * i + 1] = x.payload;
-            w[3 * i + 2] = x.offset;
-        }
+    fn from(s: &Registers) -> [u64; Registers::WORDS] {
+        let cells = s.cells.map(
+            |v|
+                ensures { result ≡ cell_words (value_cell v ∷ []) }
+            { <[u64; 3]>::from(Words::from(v)) },
+        );
+        let mut w = [0u64; Registers::WORDS];
+        w.copy_from_slice(cells.as_flattened());
         w
     }
 }

@@ -1,7 +1,6 @@
 use mathlib.Core.Path.{◌≡◌}
 use mir.Syntax.{w64}
 use mir.Val.{of_z}
-use mir.ValLaws.{to_z-of_z}
 use Rattle.model.specs.Image.{decode}
 use Rattle.model.specs.Collector.{young_at}
 use Rattle.trace.specs.Words.{pointer}
@@ -12,9 +11,9 @@ use Rattle.access.proofs.Answers.{young-refused, young-loaded, young-inside}
 use Rattle.access.proofs.read_young.Goals as goal
 use Rattle.access.proofs.read_young.Goals.{After-index}
 
-found : (c : After-index) → place_answer c.index.result ≡ young_at (decode c.args.image.words.now) (pointer 0 c.args.base (of_z w64 c.args.offset))
+found : (c : After-index) → place_answer c.index.result ≡ young_at (decode c.args.image.words.now) (pointer 0 c.args.p.base (of_z w64 c.args.p.offset))
 found c =
-    rw (to_z-of_z w64 c.args.offset c.ranges.offset) at (c.index.ensures (decode c.args.image.words.now) ((n-of c.header_of-n.ensures.sizes).reads _ c.args.image.formed))
+    c.index.ensures (decode c.args.image.words.now) ((n-of c.header_of-n.ensures.sizes).reads _ c.args.image.formed)
 
 pub young_value-requires : goal.young_value-requires
 young_value-requires c = young-inside _ _ _ (found (goal.at.young_value-requires c).After-index) c.in_ok-i.was

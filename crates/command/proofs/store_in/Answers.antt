@@ -26,12 +26,12 @@ returns-then-is_empty c =
 pub returns : goal.returns
 returns c =
     let u = c.get in
-    store-done _ _ _ c.requires.held c.requires.register_bound.2 (there (goal.at.returns c).After-target_of) c.get-2.result c.get-2.ensures c.target_of.result (aim (goal.at.returns c).After-target_of) u.result u.ensures c.in_ok-p.was c.from-w.ensures c.write_formed.result _ c.write_formed.ensures c.in_ok-write_formed.was
+    store-done _ _ _ c.requires.held c.requires.register_bound.2 (there (goal.at.returns c).After-target_of) c.get-2.result c.get-2.ensures c.target_of.result (aim (goal.at.returns c).After-target_of) u.result u.ensures c.in_ok-p.was c.from.ensures c.write_formed.result _ (rw c.from-cell.ensures at c.write_formed.ensures) c.in_ok-write_formed.was
 
 pub returns-in_err-write_formed : goal.returns-in_err-write_formed
 returns-in_err-write_formed c =
     let u = c.get in
-    store-refused _ _ _ c.requires.held c.requires.register_bound.2 (there (goal.at.returns-in_err-write_formed c).After-target_of) c.get-2.result c.get-2.ensures c.target_of.result (aim (goal.at.returns-in_err-write_formed c).After-target_of) u.result u.ensures c.in_ok-p.was c.from-w.ensures c.write_formed.result _ c.write_formed.ensures c.in_err-write_formed.was (refused_as c.from_residual-in_err-write_formed.result _ c.from_residual-in_err-write_formed.ensures.1, refl)
+    store-refused _ _ _ c.requires.held c.requires.register_bound.2 (there (goal.at.returns-in_err-write_formed c).After-target_of) c.get-2.result c.get-2.ensures c.target_of.result (aim (goal.at.returns-in_err-write_formed c).After-target_of) u.result u.ensures c.in_ok-p.was c.from.ensures c.write_formed.result _ (rw c.from-cell.ensures at c.write_formed.ensures) c.in_err-write_formed.was (refused_as c.from_residual-in_err-write_formed.result _ c.from_residual-in_err-write_formed.ensures.1, refl)
 
 pub returns-in_err-p : goal.returns-in_err-p
 returns-in_err-p c =

@@ -1,7 +1,10 @@
 use mathlib.Core.Path.{sym, ◌∙◌}
 use Rattle.access.proofs.Counted.{neither}
+use Rattle.access.proofs.Crossing.{apart}
 use Rattle.access.proofs.counts.recount.Goals as goal
 
 pub returns : goal.returns
 returns c =
-    neither c.requires _ _ _ (sym c.crosses.ensures ∙ c.if-crosses.false) (sym c.crosses-else-crosses.ensures ∙ c.if-crosses-2.false)
+    neither c.requires _ _ _
+    (apart c.args.own c.args.old _ c.crossing.ensures (sym c.is_some.ensures ∙ c.if-is_some.false))
+    (apart c.args.own c.args.new _ c.crossing-else-is_some.ensures (sym c.is_some-else-is_some.ensures ∙ c.if-is_some-2.false))

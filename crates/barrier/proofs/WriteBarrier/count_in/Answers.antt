@@ -1,7 +1,8 @@
-use mathlib.Core.Path.{sym, ◌∙◌}
-use Rattle.question.proofs.Passing.{passed_on}
+use mathlib.Core.Path.{◌≡◌, ◌∙◌}
+use Rattle.question.specs.declared.Question.TheVariants.{Bound}
 use Rattle.barrier.specs.Counts.{barrier_of}
-use Rattle.barrier.proofs.Steps.{steps-in, step-plain, step-own, step_other, Opened, opened-absent, opened-present, up-full, up_more, none_of, some_of}
+use Rattle.question.proofs.Passing.{passed_on}
+use Rattle.barrier.proofs.Steps.{steps-in, step-none, step_some, Opened, opened-absent, opened-present, up-full, up_more}
 use Rattle.barrier.proofs.WriteBarrier.count_in.Goals as goal
 use Rattle.barrier.proofs.WriteBarrier.count_in.Goals.{Joined-not-self, then-not-self, else-not-self}
 
@@ -17,28 +18,25 @@ opened c =
 pub returns-in_default : goal.returns-in_default
 returns-in_default c =
     let a = c.args in
-    step-plain (steps-in a.own) (barrier_of a.self) a.v c.in_default.not-Pointer
-
-pub returns-then-p-own : goal.returns-then-p-own
-returns-then-p-own c =
-    let a = c.args in
-    step-own (steps-in a.own) (barrier_of a.self) a.v c.in-Pointer.p c.in-Pointer.is c.if-p-own.true
+    step-none (steps-in a.own) (barrier_of a.self) a.v c.in_default.ensures
 
 pub returns-in_err-self : goal.returns-in_err-self
 returns-in_err-self c =
     let a = c.args in
     let k = c.place-at in
     let j = (goal.at.returns-in_err-self c).Joined-not-self in
-    let (full, is) = none_of _ _ _ _ c.checked_add.ensures (sym c.ok_or.ensures.value ∙ c.in_err-self.was) in
+    let none = c.in_err-self.ensures.ok_part in
+    let asked = rw none at c.in_err-self.ensures.value in
+    let is : c.in_err-self.field-0.0 ≡ Bound = cc in
     passed_on _ c.from_residual.result _ c.from_residual.ensures.1
-    ∙ rw is (up-full a.self j.if-not-self.self (opened j) k.result full)
-    ∙ step_other (steps-in a.own) (barrier_of a.self) a.v c.in-Pointer.p c.in-Pointer.is c.if-p-own.false k.result k.ensures
+    ∙ rw is (up-full a.self j.if-not-self.self (opened j) k.result (rw none at c.checked_add.ensures))
+    ∙ step_some (steps-in a.own) (barrier_of a.self) a.v c.in-Some.p c.in-Some.ensures k.result k.ensures
 
 pub returns : goal.returns
 returns c =
     let a = c.args in
     let k = c.place-at in
     let j = (goal.at.returns c).Joined-not-self in
-    let (room, is) = some_of _ _ _ c.checked_add.ensures (sym c.ok_or.ensures.value ∙ c.in_ok-self.was) in
+    let (room, is) = rw c.in_ok-self.ensures.ok_part at c.checked_add.ensures in
     rw is (up_more a.self j.if-not-self.self (opened j) k.result room)
-    ∙ step_other (steps-in a.own) (barrier_of a.self) a.v c.in-Pointer.p c.in-Pointer.is c.if-p-own.false k.result k.ensures
+    ∙ step_some (steps-in a.own) (barrier_of a.self) a.v c.in-Some.p c.in-Some.ensures k.result k.ensures

@@ -1,18 +1,11 @@
-use mathlib.Core.Path.{sym, ◌∙◌}
-use native.Mathlib.Omega.{arith}
-use Rattle.barrier.proofs.Turns.{seek-ended, seek_found, seek-on}
+use mathlib.Core.Path.{refl}
+use mathlib.Core.List.{[]}
+use Rattle.std.proofs.Common.{rules, tests}
+use Rattle.std.proofs.lemmas.List.Recursion.{or_is}
+use Rattle.barrier.proofs.Turns.{crossing_cell, crossing_cells, crossing-cut}
 use Rattle.barrier.proofs.cells.any_crosses.Goals as goal
 
-pub returns-then-crosses : goal.returns-then-crosses
-returns-then-crosses c =
-    let (size, (is, long), rem) = c.in-Some.ensures.steps in
-    seek_found _ _ c.loop-cell.invariant.2 _ _ is long (sym c.crosses.ensures ∙ c.if-crosses.true)
-
-pub loop-cell-preserved : goal.loop-cell-preserved
-loop-cell-preserved c =
-    let (size, (is, long), rem) = c.in-Some.ensures.steps in
-    let on = seek-on _ _ c.loop-cell.invariant.2 _ _ is long size (sym c.crosses.ensures ∙ c.if-crosses.false) in
-    (omega (arith, on.size), tt, on)
-
 pub returns : goal.returns
-returns c = seek-ended _ _ c.loop-cell.invariant.2 c.in-None.ensures.steps.1.0
+returns c =
+    rw (crossing-cut c.args.own c.args.cells.now, ← c.as_chunks.ensures.front)
+    (or_is (crossing_cells c.args.own) (crossing_cell c.args.own) refl (λ _ _. refl) c.as_chunks.result.0.now [] _ (search (tests, rules)) (search (tests, rules)))

@@ -1,32 +1,28 @@
 use mathlib.Core.Path.{sym, ◌∙◌}
-use native.Mathlib.Omega.{arith}
 use Rattle.question.proofs.Passing.{passed_on}
 use Rattle.barrier.proofs.Steps.{steps_of}
-use Rattle.barrier.proofs.Turns.{ended, valid-here, turn-skip, turn-done, turn-refused}
+use Rattle.barrier.proofs.Turns.{triples-valid, triples-cells, begin, ended, turn-skip, turn-done, turn-refused}
 use Rattle.barrier.proofs.cells.count_cells.Goals as goal
+use Rattle.barrier.proofs.cells.count_cells.Goals.{then-crosses+in_ok-barrier, else-crosses}
 
-pub value-requires : goal.value-requires
-value-requires c =
-    let (size, (is, long), rem) = c.in-Some.ensures.steps in
-    rw c.at-cell.ensures (valid-here _ _ _ c.loop-words.invariant.2 _ _ is long)
+pub loop-cell-init : goal.loop-cell-init
+loop-cell-init c = rw c.as_chunks.ensures.front (begin _ _ _ (triples-valid c.args.cells.now c.requires))
 
 pub returns-in_err-barrier : goal.returns-in_err-barrier
 returns-in_err-barrier c =
-    let (size, (is, long), rem) = c.in-Some.ensures.steps in
-    let e = turn-refused _ _ _ c.loop-words.invariant.2 _ _ is long c.value.result c.count.result (rw c.at-cell.ensures at c.value.ensures) c.count.ensures _ c.in_err-barrier.was in
-    passed_on _ c.from_residual.result _ c.from_residual.ensures.1 ∙ e
+    let cells = rw (← c.as_chunks.ensures.front) at (triples-cells c.args.cells.now) in
+    let no = turn-refused _ _ _ c.loop-cell.invariant c.loop-cell-test.true _ c.count.result (rw c.from.ensures at c.value.ensures) c.count.ensures _ c.in_err-barrier.was in
+    passed_on _ c.from_residual.result _ c.from_residual.ensures.1 ∙ rw cells at no
 
-pub loop-words-preserved-then-crosses : goal.loop-words-preserved-then-crosses
-loop-words-preserved-then-crosses c =
-    let (size, (is, long), rem) = c.in-Some.ensures.steps in
-    let on = turn-done _ _ _ c.loop-words.invariant.2 _ _ is long size c.value.result c.count.result (rw c.at-cell.ensures at c.value.ensures) c.count.ensures _ c.in_ok-barrier.was in
-    (omega (arith, on.size), tt, on)
-
-pub loop-words-preserved : goal.loop-words-preserved
-loop-words-preserved c =
-    let (size, (is, long), rem) = c.in-Some.ensures.steps in
-    let on = turn-skip _ _ _ c.loop-words.invariant.2 _ _ is long size (steps_of _ _) (sym c.crosses.ensures ∙ c.if-crosses.false) in
-    (omega (arith, on.size), tt, on)
+pub loop-cell-preserved : goal.loop-cell-preserved
+loop-cell-preserved c =
+    let h = c.loop-cell-test.true in
+    elim c.if-crosses.branch [
+      | then-crosses+in_ok-barrier w ↦ rw w.barrier-is (turn-done _ _ _ c.loop-cell.invariant h _ w.count.result (rw w.from.ensures at w.value.ensures) w.count.ensures _ w.in_ok-barrier.was)
+      | else-crosses w ↦ rw w.barrier-is (turn-skip _ _ _ c.loop-cell.invariant h (steps_of _ _) (sym c.crosses.ensures ∙ w.if-crosses.false))
+    ]
 
 pub returns : goal.returns
-returns c = ended _ _ _ c.loop-words.invariant.2 c.in-None.ensures.steps.1.0
+returns c =
+    let cells = rw (← c.as_chunks.ensures.front) at (triples-cells c.args.cells.now) in
+    rw cells at (ended _ _ _ c.loop-cell.invariant c.loop-cell-test.false)

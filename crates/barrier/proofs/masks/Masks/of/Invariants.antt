@@ -1,5 +1,5 @@
 use Rattle.barrier.proofs.Places.{Found}
 use Rattle.barrier.proofs.masks.Masks.of.Given as goal
 
-abbrev pub invariant-loop-i : goal.invariant-loop-i
-invariant-loop-i l = Found l.barrier.counts l.i l.count l.places
+abbrev pub invariant-loop-place : goal.invariant-loop-place
+invariant-loop-place l = Found l.n-items l.place l.count l.places
