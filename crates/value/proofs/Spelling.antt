@@ -39,9 +39,9 @@ plain-asked a b o y e = go (eqb (a % 256) 5) refl
     go false q = refl
 
 -- question 3 as the code asks it
-pub words-asked : (a b o : ℕ) → valid_words a b o ≡ (eqb a 5 || (eqb a 261 || (eqb o 0 && valid_plain a b)))
+pub asked : (a b o : ℕ) → valid_words a b o ≡ (eqb a 5 || (eqb a 261 || (eqb o 0 && valid_plain a b)))
 unfolding valid_words cell_of valid
-words-asked a b o = go (eqb a 5) (eqb a 261) refl refl
+asked a b o = go (eqb a 5) (eqb a 261) refl refl
   where
     turned : (s t : Bool) → (s && t) ≡ (t && s)
     turned true true = refl
@@ -110,3 +110,5 @@ module _ (a b o : ℕ) (v : valid_words a b o ≡ true) where
     pub spelled-pointer : (x : ℤ) → Fits w64 o → x ≡ to_z w64 o → Spelled a b o (PointerV (record { heap = a / 256; base = b; offset = x }))
     unfolding cell_of value_cell
     spelled-pointer x f is = rw is (record { cell = rw is_pointer (λ i. ref (record { heap = a / 256; base = b; off = of_z-to_z w64 o f i })); whole = tt; ranged = to_z-Fits w64 o f })
+
+pub ruleset spells = (spelled-blank, spelled-int, spelled-bool, spelled-float, spelled-char, char-small, heap-small, spelled-pointer)

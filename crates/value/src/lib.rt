@@ -21,6 +21,7 @@ enum Kind {
     Pointer = 5,
 }
 
+// Their numbers, to match words by. A `TryFrom<u64>` would write the numbers a second time, and each arm would unwrap its kind.
 const UNINITIALIZED: u64 = Kind::Uninitialized as u64;
 
 const INT: u64 = Kind::Int as u64;
@@ -71,6 +72,7 @@ pub enum Value {
 
 impl Value {
     // The pointer, if it is one to another heap than `own`.
+    #[tactic(auto, unfolding(crate::specs::Value::crossing))]
     pub fn crossing(self, own: u8) -> Option<Pointer>
         ensures { result ≡ crossing own self }
     {
@@ -102,9 +104,10 @@ pub fn number(bits: u64) -> f64
 fn is_scalar(c: u64) -> bool
     ensures { result ≡ scalar c }
 {
-    c < 0xD800 || 0xE000 <= c && c < 0x110000
+    u32::try_from(c).is_ok_and(|c| char::from_u32(c).is_some())
 }
 
+#[tactic(auto, unfolding(model::specs::Records::valid_plain))]
 fn is_valid_plain(kind: u64, payload: u64) -> bool
     ensures { result ≡ valid_plain kind payload }
 {
@@ -132,6 +135,7 @@ impl Words {
     }
 
     // Question 3 of one cell. An image is asked it of every cell, so the words are tested as they are, and no value is made.
+    #[tactic(auto, using(crate::proofs::Spelling::asked, std::proofs::Common::tests))]
     pub fn is_valid(self) -> bool
         ensures { result ≡ valid_words self.tag self.payload self.offset }
     {
@@ -141,6 +145,7 @@ impl Words {
     }
 
     // The value of a valid cell's words.
+    #[tactic(auto, using(crate::proofs::Spelling::spells))]
     pub fn value(self) -> Value
         requires { valid_words self.tag self.payload self.offset ≡ true }
         ensures { Spelled self.tag self.payload self.offset result }
@@ -192,6 +197,7 @@ impl TryFrom<Words> for Value {
 
     ghost try_from_gives = { λ w r. Decodes w.tag w.payload w.offset r };
 
+    #[tactic(auto, unfolding(crate::specs::Value::cell_asked))]
     fn try_from(w: Words) -> Result<Value, Question> {
         if !w.is_valid() {
             return Err(Question::Cells);
@@ -200,6 +206,7 @@ impl TryFrom<Words> for Value {
     }
 }
 
+#[tactic(auto, unfolding(model::specs::Records::cell_words))]
 fn plain_words(kind: Kind, payload: u64) -> Words
     ensures { (result.tag ∷ result.payload ∷ result.offset ∷ []) ≡ cell_words (plain (kind_number kind) payload ∷ []) }
 {
@@ -214,6 +221,7 @@ fn plain_words(kind: Kind, payload: u64) -> Words
 impl From<Value> for Words {
     ghost from_gives = { λ v w. (w.tag ∷ w.payload ∷ w.offset ∷ []) ≡ cell_words (value_cell v ∷ []) };
 
+    #[tactic(auto, unfolding(crate::specs::Value::value_cell, model::specs::Records::blank, model::specs::Records::cell_words))]
     fn from(v: Value) -> Words {
         match v {
             Value::Uninitialized => plain_words(Kind::Uninitialized, 0),

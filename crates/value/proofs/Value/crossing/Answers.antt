@@ -18,7 +18,3 @@ plain_none own (PointerV p) h = absurd (h p refl)
 
 pub returns-in_default : goal.returns-in_default
 returns-in_default c = plain_none c.args.own c.args.self c.in_default.not-Pointer
-
-pub returns : goal.returns
-unfolding crossing
-returns c = rw c.in-Pointer.is c.then_some.ensures
