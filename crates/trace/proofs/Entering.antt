@@ -8,6 +8,7 @@ use Rattle.model.specs.Reach.{enter}
 use Rattle.model.specs.Records.{Ptr, same_ptr}
 use Rattle.trace.specs.declared.Members.{Members}
 use Rattle.trace.specs.Entered.{entries, Becomes, Entered, Room}
+use Rattle.trace.proofs.Places.{root-one, root_none, own-one, own-none, base-one}
 use Rattle.trace.proofs.Closure.{enter-grows, enter-append}
 
 -- a piece brings one pointer, or none
@@ -48,3 +49,6 @@ module _ {left goal : List Ptr} {l₀ l : Members} (v : Entering left goal l₀ 
   pub enter-done : left ≡ [] → Becomes l₀ l goal
   unfolding enter
   enter-done e = record { is = rw e at v.is; len = v.len; same = v.same }
+
+-- what a function that enters one piece needs
+pub ruleset pieces = (one-room, one-entered, none-entered, root-one, root_none, own-one, own-none, base-one)

@@ -121,6 +121,7 @@ impl Members<'_> {
     }
 
     // Enters a root, if it is a pointer, whichever its heap.
+    #[tactic(auto, using(crate::proofs::Entering::pieces))]
     fn enter_root(&mut self, cell: [u64; 3])
         requires { Room self.old (pointers (cells_of 1 cell)) }
         ensures { Entered self.old self.new (pointers (cells_of 1 cell)) }
@@ -159,6 +160,7 @@ pub struct Generation<'a> {
 
 impl Generation<'_> {
     // Enters (own, base, 0), if there is an allocation at the base, of length len, and a mask matches.
+    #[tactic(auto, using(crate::proofs::Entering::pieces))]
     fn enter_base(self, base: u64, len: u64, masks: &[u64], members: &mut Members<'_>)
         requires { Room members.old (matched self.own masks.now (places base (len ∷ []))) }
         ensures { Entered members.old members.new (matched self.entry.own masks.now (places base (len ∷ []))) }
@@ -183,6 +185,7 @@ impl Generation<'_> {
     }
 
     // Enters a cell, if it is a pointer to the heap own.
+    #[tactic(auto, using(crate::proofs::Entering::pieces))]
     fn enter_own(self, cell: [u64; 3], members: &mut Members<'_>)
         requires { Room members.old (pointers_to self.own (cells_of 1 cell)) }
         ensures { Entered members.old members.new (pointers_to self.entry.own (cells_of 1 cell)) }

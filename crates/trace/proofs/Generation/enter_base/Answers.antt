@@ -1,5 +1,5 @@
-use Rattle.trace.proofs.Places.{base-free, base-one, base-none}
-use Rattle.trace.proofs.Entering.{one-room, one-entered, none-entered}
+use Rattle.trace.proofs.Places.{base-free, base-none}
+use Rattle.trace.proofs.Entering.{none-entered}
 use Rattle.trace.proofs.Generation.enter_base.Goals as goal
 use Rattle.trace.proofs.Generation.enter_base.Goals.{then-len-eq0-via-then-len-eq0, then-len-eq0-via-else-len-eq0+then-not-matches}
 
@@ -8,9 +8,3 @@ returns-then-len-eq0 c = elim c.then-len-eq0.branch [
   | then-len-eq0-via-then-len-eq0 w ↦ search (none-entered, base-free)
   | then-len-eq0-via-else-len-eq0+then-not-matches w ↦ search (none-entered, base-none)
 ]
-
-pub enter-requires : goal.enter-requires
-enter-requires c = search (one-room, base-one)
-
-pub returns : goal.returns
-returns c = search (one-entered, base-one)
