@@ -101,10 +101,11 @@ pub fn number(bits: u64) -> f64
     }
 }
 
+// Not by `char::from_u32`: of an image with Chars, the check took 2 of 100 instructions more.
 fn is_scalar(c: u64) -> bool
     ensures { result ≡ scalar c }
 {
-    u32::try_from(c).is_ok_and(|c| char::from_u32(c).is_some())
+    c < 0xD800 || 0xE000 <= c && c < 0x110000
 }
 
 #[tactic(auto, unfolding(model::specs::Records::valid_plain))]
