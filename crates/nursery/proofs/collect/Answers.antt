@@ -24,14 +24,12 @@ returns-then-h-visits c =
     let promotions = c.header_of-h.ensures.promotions in
     collect-over _ _ collections (search rules) _ _ c.members-entered.ensures (in-front _ _ _ _ _ c.members-entered.ensures.fits c.survivors-survivors.ensures.upper_bound c.survivors-survivors.auto.list c.survivors-survivors.ensures.list_after) (search rules) c.all_allocated.ensures c.if-not-all_allocated.false promotions (search rules)
 
-pub empty_nursery-requires : goal.empty_nursery-requires
-empty_nursery-requires c =
+pub empty_nursery-requires-clause-image_bound : goal.empty_nursery-requires-clause-image_bound
+empty_nursery-requires-clause-image_bound c =
     let i = c.requires.image in
     let collections = c.header_of-h.ensures.young_collections in
-    let promotions = c.header_of-h.ensures.promotions in record {
-      image = i;
-      image_bound = (omega (arith, most-is, collections.reads _ i), omega (arith, most-is, promotions.reads _ i));
-    }
+    let promotions = c.header_of-h.ensures.promotions in
+    (omega (arith, most-is, collections.reads _ i), omega (arith, most-is, promotions.reads _ i))
 
 pub returns : goal.returns
 returns c =
