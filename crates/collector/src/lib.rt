@@ -22,7 +22,6 @@ ghost use Rattle.cycle.specs.Outcomes.{Ready};
 ghost use Rattle.cycle.specs.declared.turns.Request.TheVariants.{New};
 ghost use Rattle.collector.specs.Alloc.{Worked, moves_at, gave_outcome, alloc_outcome};
 
-use barrier::masks::Masks;
 use cycle::scratch::Parts;
 pub use cycle::turns::Work;
 use cycle::turns::{Gave, Request};
@@ -112,7 +111,7 @@ fn collect_and_change(
     requires { Ready image.old roots.now scratch.old (New amount) 2 false }
     ensures { Worked amount image.old roots.now scratch.old result image.new scratch.new }
 {
-    let masks = Masks::of(fields::barrier_of(Formed { words: image }, 0));
+    let masks = fields::barrier_of(Formed { words: image }, 0).masks();
     let g = cycle::collect_and_push_allocation(
         image,
         roots,

@@ -9,7 +9,6 @@ ghost use Rattle.question.specs.Question.{number_answer};
 ghost use Rattle.elder.specs.Steps.{place_step};
 ghost use Rattle.cycle.specs.Scratch.{old_list_at, PartsOf, young_in, parts_in, Saved, SweptIn, CollectedIn};
 
-use barrier::masks::Masks;
 use image::formed::Formed;
 use image::places;
 use nursery::Collected;
@@ -89,7 +88,7 @@ pub fn collect_nursery(
     requires roots_in_bounds { scratch_length (decode image.old).size (length roots.now / 3) ≤ length scratch.old }
     ensures { CollectedIn image.old roots.now scratch.old result image.new scratch.new }
 {
-    let masks = Masks::of(fields::barrier_of(Formed { words: image }, 1));
+    let masks = fields::barrier_of(Formed { words: image }, 1).masks();
     let at = image.len();
     nursery::collect(image, roots, masks.as_slice(), &mut scratch[at..])
 }
