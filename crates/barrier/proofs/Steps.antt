@@ -19,6 +19,8 @@ use Rattle.value.specs.declared.Value.{Value}
 use Rattle.value.specs.declared.Value.TheVariants.{Uninitialized, Int, Bool as BoolV, Float as FloatV, Char, Pointer as PointerV}
 use Rattle.value.specs.Value.{value_cell, crossing}
 use Rattle.barrier.specs.declared.WriteBarrier.{WriteBarrier}
+use Rattle.barrier.specs.declared.Way.{Way}
+use Rattle.barrier.specs.declared.Way.TheVariants.{In, Out}
 use Rattle.barrier.specs.Counts.{barrier_if, barrier_of, step_of}
 
 -- A step counts a pointer to another heap, and nothing else: what count_in and count_out share
@@ -37,14 +39,14 @@ steps-out own = record { of_plain = λ k v b. refl; of_ref = λ p b. refl }
 abbrev pointer : Pointer → Ptr
 pointer p = record { heap = p.heap; base = p.base; off = of_z w64 p.offset }
 
-abbrev step_at : Bool → ℕ → Barrier → Res Barrier
-step_at true = up
-step_at false = down
+abbrev step_at : Way → ℕ → Barrier → Res Barrier
+step_at In = up
+step_at Out = down
 
-pub steps_of : (into : Bool) (own : ℕ) → Steps own (step_of into own) (step_at into)
+pub steps_of : (way : Way) (own : ℕ) → Steps own (step_of way own) (step_at way)
 unfolding step_of
-steps_of true = steps-in
-steps_of false = steps-out
+steps_of In = steps-in
+steps_of Out = steps-out
 
 module _ {own : ℕ} {f : Cell → Barrier → Res Barrier} {g : ℕ → Barrier → Res Barrier} (s : Steps own f g) (b : Barrier) where
   -- where no pointer crosses, nothing is counted

@@ -4,6 +4,8 @@ use Rattle.model.specs.Res.{Res}
 use Rattle.model.specs.Records.{Cell}
 use Rattle.model.specs.Barrier.{Barrier, absent, present, count_in, count_out}
 use Rattle.barrier.specs.declared.WriteBarrier.{WriteBarrier}
+use Rattle.barrier.specs.declared.Way.{Way}
+use Rattle.barrier.specs.declared.Way.TheVariants.{In, Out}
 
 abbrev pub barrier_if : Bool → List ℕ → Barrier
 barrier_if true cs = present cs
@@ -13,9 +15,9 @@ abbrev pub barrier_of : WriteBarrier → Barrier
 barrier_of b = barrier_if b.present b.counts
 
 -- a cell counted in, or out
-unfoldable pub step_of : Bool → ℕ → Cell → Barrier → Res Barrier
-step_of true own = count_in own
-step_of false own = count_out own
+unfoldable pub step_of : Way → ℕ → Cell → Barrier → Res Barrier
+step_of In own = count_in own
+step_of Out own = count_out own
 
 -- the first word of a cell that points to another heap than own
 unfoldable pub crossing : ℕ → ℕ → Bool

@@ -6,7 +6,7 @@ ghost use Rattle.model.specs.Calls.{cells_in};
 ghost use Rattle.barrier.specs.Counts.{barrier_of, step_of, crossing, any_crossing};
 ghost use Rattle.question.specs.Question.{answer};
 
-use crate::WriteBarrier;
+use crate::{Way, WriteBarrier};
 use question::Question;
 use value::Words;
 
@@ -25,21 +25,20 @@ pub fn any_crosses(cells: &[u64], own: u8) -> bool
     triples.iter().any(|c| crosses(c[0], own))
 }
 
-// Each counted in if `into`, else out.
-// A flag and no function passed in: the contract names the step by it, and would need clauses of its own for a function.
+// Each counted in, or each out.
 pub fn count_cells(
     cells: &[u64],
     own: u8,
-    into: bool,
+    way: Way,
     mut barrier: WriteBarrier,
 ) -> Result<WriteBarrier, Question>
     requires { whole_cells cells.now ≡ true }
-    ensures { answer barrier_of result ≡ each (step_of into own) (cells_in cells.now) (barrier_of barrier) }
+    ensures { answer barrier_of result ≡ each (step_of way own) (cells_in cells.now) (barrier_of barrier) }
 {
     let (triples, _) = cells.as_chunks::<3>();
     for cell in triples {
         if crosses(cell[0], own) {
-            barrier = barrier.count(own, into, Words::from(*cell).value())?;
+            barrier = barrier.count(own, way, Words::from(*cell).value())?;
         }
     }
     Ok(barrier)

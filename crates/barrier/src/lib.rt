@@ -22,6 +22,13 @@ pub struct WriteBarrier {
     pub present: bool,
 }
 
+// Whether a value is counted in or out. No function that is passed in: it would need clauses of its own.
+#[derive(Clone, Copy)]
+pub enum Way {
+    In,
+    Out,
+}
+
 // Its steps take `mut self` and hand the barrier back, the form that document 01 names.
 impl WriteBarrier {
     pub const SIZE: usize = 256;
@@ -76,15 +83,12 @@ impl WriteBarrier {
         Ok(self)
     }
 
-    // Counted in if `into`, else out. A flag and no function passed in: the contract names the step by it, and would need clauses of its
-    // own for a function.
-    pub fn count(self, own: u8, into: bool, v: Value) -> Result<Self, Question>
-        ensures { answer barrier_of result ≡ step_of into own (value_cell v) (barrier_of self) }
+    pub fn count(self, own: u8, way: Way, v: Value) -> Result<Self, Question>
+        ensures { answer barrier_of result ≡ step_of way own (value_cell v) (barrier_of self) }
     {
-        if into {
-            self.count_in(own, v)
-        } else {
-            self.count_out(own, v)
+        match way {
+            Way::In => self.count_in(own, v),
+            Way::Out => self.count_out(own, v),
         }
     }
 

@@ -9,7 +9,7 @@ ghost use Rattle.barrier.specs.Counts.{barrier_of, any_crossing};
 ghost use Rattle.trace.specs.Words.{listed};
 ghost use Rattle.slots.specs.Slots.{Packed, slots_of};
 
-use barrier::{WriteBarrier, cells};
+use barrier::{Way, WriteBarrier, cells};
 use question::Question;
 use trace::Member;
 
@@ -41,7 +41,7 @@ pub fn count_dropped(
     for (b, len) in lens.iter().enumerate() {
         let end = at + 3 * *len as usize;
         if is_counted(&cells[at..end], b, members) {
-            barrier = cells::count_cells(&cells[at..end], 1, false, barrier)?;
+            barrier = cells::count_cells(&cells[at..end], 1, Way::Out, barrier)?;
         }
         at = end;
     }

@@ -18,7 +18,7 @@ ghost use Rattle.words.specs.Source.{cells_from};
 ghost use Rattle.fields.specs.Fields.{Reads, Turns, on_old};
 ghost use Rattle.elder.specs.Steps.{Listed, swept, Collects, collect_with, collect_step, count_step, source_step};
 
-use barrier::{WriteBarrier, cells};
+use barrier::{Way, WriteBarrier, cells};
 use image::counts::MOST;
 use image::formed::Formed;
 use image::places;
@@ -124,7 +124,7 @@ fn count_given(image: &mut [u64], src: &[u64]) -> Result<(), Question>
     if !cells::any_crosses(src, 1) {
         return Ok(());
     }
-    let b = cells::count_cells(src, 1, true, fields::barrier_of(Formed { words: image }, 1))?;
+    let b = cells::count_cells(src, 1, Way::In, fields::barrier_of(Formed { words: image }, 1))?;
     fields::put_barrier(image, 1, b);
     Ok(())
 }

@@ -1,10 +1,10 @@
 use Rattle.barrier.specs.Counts.{step_of}
 use Rattle.barrier.proofs.WriteBarrier.count.Goals as goal
 
-pub returns-then-into : goal.returns-then-into
+pub returns-in-In : goal.returns-in-In
 unfolding step_of
-returns-then-into c = rw c.if-into.true c.count_in.ensures
+returns-in-In c = rw c.in-In.is c.count_in.ensures
 
-pub returns-else-into : goal.returns-else-into
+pub returns-in-Out : goal.returns-in-Out
 unfolding step_of
-returns-else-into c = rw c.if-into.false c.count_out.ensures
+returns-in-Out c = rw c.in-Out.is c.count_out.ensures
