@@ -6,8 +6,7 @@ mod answers;
 ghost use Rattle.std.specs.Prelude.{◌≡◌, true, List, ℕ, ◌<◌, ◌≤◌, length};
 ghost use Rattle.std.specs.Int.{w64};
 ghost use Rattle.std.proofs.Common.{of_z};
-ghost use Rattle.model.specs.Lists.{all_at_most};
-ghost use Rattle.model.specs.Command.{new, alloc, set, load, store, report as report_command, figure, registers_of};
+ghost use Rattle.model.specs.Command.{new, alloc, set, load, store, report as report_command, figure};
 ghost use Rattle.model.specs.Run.{program_bounds};
 ghost use Rattle.theorems.specs.Program.{program_words, program_scratch};
 ghost use Rattle.value.specs.Value.{value_cell};
@@ -22,7 +21,7 @@ use image::formed::Formed;
 use image::sizes::Sizes;
 use question::Question;
 use reader::{Access, Command};
-use registers::Registers;
+use registers::{Register, Registers};
 use value::{Pointer, Value, Words};
 
 // The heap's words in a buffer, and the registers. Without a heap the words are 0: the commands get the empty image then, of which
@@ -36,9 +35,9 @@ pub struct State {
 // ---- Registers alone
 
 // 3 asks of the three words.
-fn set_register(registers: &mut Registers, register: usize, w: Words) -> Result<Answer, Question>
-    requires { (register < 16) × Good registers.old }
-    ensures { (image : List ℕ) → Held image → Acts (set register w.tag w.payload w.offset) image registers.old result image registers.new }
+fn set_register(registers: &mut Registers, register: Register, w: Words) -> Result<Answer, Question>
+    requires { Good registers.old }
+    ensures { (image : List ℕ) → Held image → Acts (set register.number w.tag w.payload w.offset) image registers.old result image registers.new }
 {
     let v = Value::try_from(w)?;
     registers.set(register, v);
@@ -46,9 +45,9 @@ fn set_register(registers: &mut Registers, register: usize, w: Words) -> Result<
 }
 
 // Only a Float has a figure: 15.
-fn take_figure(registers: &Registers, register: usize) -> Result<Answer, Question>
-    requires { (register < 16) × Good registers.now }
-    ensures { (w : List ℕ) → Held w → Acts (figure register) w registers.now result w registers.now }
+fn take_figure(registers: &Registers, register: Register) -> Result<Answer, Question>
+    requires { Good registers.now }
+    ensures { (w : List ℕ) → Held w → Acts (figure register.number) w registers.now result w registers.now }
 {
     let Value::Float { number, .. } = registers.get(register) else {
         return Err(Question::Figure);
@@ -64,13 +63,13 @@ fn alloc_in(
     image: &mut [u64],
     scratch: &mut [u64],
     registers: &mut Registers,
-    register: usize,
+    register: Register,
     amount: i64,
 ) -> Result<Answer, Question>
     requires held { Held image.old }
     requires program_scratch_in_bounds { program_scratch ≤ length scratch.old }
-    requires register_bound { (register < 16) × Good registers.old }
-    ensures { Acts (alloc register (of_z w64 amount)) image.old registers.old result image.new registers.new }
+    requires good { Good registers.old }
+    ensures { Acts (alloc register.number (of_z w64 amount)) image.old registers.old result image.new registers.new }
 {
     if image.is_empty() {
         return Err(Question::Heap);
@@ -98,28 +97,28 @@ fn target_of(v: Value, offset: i64) -> Result<Pointer, Question>
 // The value goes to answer and register as it was read.
 fn load_in(image: &[u64], registers: &mut Registers, a: Access) -> Result<Answer, Question>
     requires held { Held image.now }
-    requires register_bound { (a.register < 16) × (a.pointer < 16) × Good registers.old }
-    ensures { Acts (load a.register a.pointer (of_z w64 a.offset)) image.now registers.old result image.now registers.new }
+    requires good { Good registers.old }
+    ensures { Acts (load a.register.number a.pointer.number (of_z w64 a.offset)) image.now registers.old result image.now registers.new }
 {
     if image.is_empty() {
         return Err(Question::Heap);
     }
-    let p = target_of(registers.get(a.pointer as usize), a.offset)?;
+    let p = target_of(registers.get(a.pointer), a.offset)?;
     let v = access::read_formed(Formed { words: image }, p)?;
-    registers.set(a.register as usize, v);
+    registers.set(a.register, v);
     Ok(Answer::Load(v))
 }
 
 fn store_in(image: &mut [u64], registers: &Registers, a: Access) -> Result<Answer, Question>
     requires held { Held image.old }
-    requires register_bound { (a.register < 16) × (a.pointer < 16) × Good registers.now }
-    ensures { Acts (store a.register a.pointer (of_z w64 a.offset)) image.old registers.now result image.new registers.now }
+    requires good { Good registers.now }
+    ensures { Acts (store a.register.number a.pointer.number (of_z w64 a.offset)) image.old registers.now result image.new registers.now }
 {
     if image.is_empty() {
         return Err(Question::Heap);
     }
-    let cell = <[u64; 3]>::from(Words::from(registers.get(a.register as usize)));
-    let p = target_of(registers.get(a.pointer as usize), a.offset)?;
+    let cell = <[u64; 3]>::from(Words::from(registers.get(a.register)));
+    let p = target_of(registers.get(a.pointer), a.offset)?;
     access::write_formed(image, p, &cell)?;
     Ok(Answer::Store)
 }
@@ -178,18 +177,13 @@ fn act(
 ) -> Result<Answer, Question>
     requires held { Held image.old × Good registers.old }
     requires program_scratch_in_bounds { program_scratch ≤ length scratch.old }
-    requires command_value { all_at_most 15 (registers_of (model_command command)) ≡ true }
     requires image_nonzero { is_new (model_command command) ≡ true → 0 < length image.old }
     ensures { Acts (model_command command) image.old registers.old result image.new registers.new }
 {
     match command {
         Command::New { .. } => Err(Question::Heap),
         Command::Alloc { register, amount } => alloc_in(
-            image,
-            scratch,
-            registers,
-            register as usize,
-            amount,
+            image, scratch, registers, register, amount,
         ),
         Command::Set {
             register,
@@ -202,12 +196,12 @@ fn act(
                 payload,
                 offset,
             };
-            set_register(registers, register as usize, w)
+            set_register(registers, register, w)
         }
         Command::Load(a) => load_in(image, registers, a),
         Command::Store(a) => store_in(image, registers, a),
         Command::Report => report_in(image),
-        Command::Figure { register } => take_figure(registers, register as usize),
+        Command::Figure { register } => take_figure(registers, register),
     }
 }
 
@@ -221,7 +215,6 @@ impl State {
     ) -> Result<Answer, Question>
         requires ready { Ready buffer.old self.old }
         requires program_words_in_bounds { Roomy buffer.old scratch.old }
-        requires command_value { all_at_most 15 (registers_of (model_command command)) ≡ true }
         ensures { Performs (model_command command) buffer.old self.old result buffer.new self.new }
     {
         if self.words == 0

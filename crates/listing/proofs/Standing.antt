@@ -9,11 +9,9 @@ use lib.Dec.{leb}
 use lib.ListN.{length, get_or, drop, drop_of_length-le}
 use lib.Seq.{drop-length, drop-cons}
 use borrow.Author.Tests.{le-leb, lt-leb}
-use Rattle.model.specs.Lists.{all_at_most}
 use Rattle.model.specs.Res.{Res, ok, refuse}
-use Rattle.model.specs.Command.{Command, registers_of, parse, parse_up_to, parse_all}
+use Rattle.model.specs.Command.{Command, parse, parse_up_to, parse_all}
 use Rattle.model.specs.Listing.{longest_file}
-use Rattle.theorems.proofs.Reading.{registers-below}
 use Rattle.std.proofs.Common.{Option as CodeOption, Some, None, unwrap_or, Result, Err}
 use Rattle.question.specs.declared.Question.{Question}
 use Rattle.question.specs.declared.Question.TheVariants.{Command as Malformed}
@@ -90,8 +88,5 @@ module _ (file : List ℕ) (at : ℕ) (h : at < length file) where
   pub never_none : (x : CodeOption (Result (Given × ℕ) Question)) → next_answer x ≡ stands_at file at → next_answer (Some (unwrap_or x (Err Malformed))) ≡ stands_at file at
   never_none (Some x) e = e
   never_none None e = absurd (stood e)
-
-  pub registers-below-16 : {c : Command} {k : ℕ} → ok (some (c, k)) ≡ stands_at file at → all_at_most 15 (registers_of c) ≡ true
-  registers-below-16 e = registers-below (drop at file) (stood e).0.parsed
 
 pub ruleset lengths = (stands-short, stands-long, stands-end)

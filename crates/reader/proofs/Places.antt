@@ -1,6 +1,5 @@
 -- What stands at a place of a file, by the tests that the code makes.
 use mathlib.Core.Path.{◌≡◌}
-use mathlib.Core.Bool.{true, false}
 use mathlib.Core.List.{List}
 use mathlib.Core.Option.{none, some}
 use Prim.Native.Nat.{ℕ, suc, ◌+◌, ◌-◌, ◌≤◌, ◌<◌}
@@ -9,10 +8,10 @@ use native.Mathlib.Omega.{arith}
 use lib.ListN.{length, get_or, take, drop, length-drop, drop_of_length-le}
 use lib.Seq.{drop-cons}
 use borrow.Author.Tests.{le-leb, lt-leb}
-use Rattle.model.specs.Lists.{all_at_most}
 use Rattle.model.specs.Res.{ok, refuse}
-use Rattle.model.specs.Command.{Command, opcodes, operand_bytes, command_of, registers_of, parse}
-use Rattle.reader.specs.Answer.{next_at}
+use Rattle.model.specs.Command.{Command, opcodes, operand_bytes, command_of, parse}
+use Rattle.reader.specs.Answer.{with_registers, next_at}
+use Rattle.reader.proofs.Registers.{by_true, by_false}
 
 pub stands-none : (file : List ℕ) (at : ℕ) → length file ≤ at → ok none ≡ next_at file at
 unfolding next_at
@@ -46,13 +45,15 @@ module _ (file : List ℕ) (at : ℕ) (h : at < length file) where
       lent_is : lent ≡ take k w
       lent_is = let n : at + 1 + k - (at + 1) ≡ k = omega arith in rw (n, add-one)
 
-      module _ {m : Command} (is : m ≡ command_of op lent) where
-        pub stands-high : false ≡ all_at_most 15 (registers_of m) → refuse 12 ≡ next_at file at
-        unfolding next_at parse
-        stands-high high = rw (drop-cons file at 0 h, ← e, le-leb k (length w) (omega (arith, w-length)), ← lent_is, ← is, ← high)
+      pub stands-high : {q : ℕ} → refuse q ≡ with_registers (command_of op lent) → refuse q ≡ next_at file at
+      unfolding next_at parse
+      stands-high is =
+          let (high, twelve) = by_false (command_of op lent) _ is in
+          rw (drop-cons file at 0 h, ← e, le-leb k (length w) (omega (arith, w-length)), ← lent_is, high, twelve)
 
-        pub stands-command : true ≡ all_at_most 15 (registers_of m) → ok (some (m, at + 1 + k)) ≡ next_at file at
-        unfolding next_at parse
-        stands-command low =
-            let behind : length file - length (drop k w) ≡ at + 1 + k = omega (arith, length-drop k w, w-length) in
-            rw (drop-cons file at 0 h, ← e, le-leb k (length w) (omega (arith, w-length)), ← lent_is, ← is, ← low, behind)
+      pub stands-command : {m : Command} → ok m ≡ with_registers (command_of op lent) → ok (some (m, at + 1 + k)) ≡ next_at file at
+      unfolding next_at parse
+      stands-command is =
+          let (low, same) = by_true (command_of op lent) _ is in
+          let behind : length file - length (drop k w) ≡ at + 1 + k = omega (arith, length-drop k w, w-length) in
+          rw (drop-cons file at 0 h, ← e, le-leb k (length w) (omega (arith, w-length)), ← lent_is, low, same, behind)

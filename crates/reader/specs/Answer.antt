@@ -3,8 +3,9 @@ use Rattle.std.specs.Prelude.{◌≡◌, List, [], ◌∷◌, ℕ, ◌-◌, leng
 use Rattle.std.proofs.Math.Option.{Option, none, some}
 use Rattle.std.specs.Int.{w64}
 use Rattle.std.proofs.Common.{of_z}
-use Rattle.model.specs.Res.{Res, ok, refuse}
-use Rattle.model.specs.Command.{Command as ModelCommand, new, alloc, set, load, store, report, figure, opcodes, operand_bytes, parse}
+use Rattle.model.specs.Lists.{all_at_most}
+use Rattle.model.specs.Res.{Res, ok, refuse, ◌>>=◌, ask}
+use Rattle.model.specs.Command.{Command as ModelCommand, new, alloc, set, load, store, report, figure, opcodes, operand_bytes, registers_of, parse}
 use Rattle.question.specs.declared.Question.{Question}
 use Rattle.question.specs.Question.{number, answer}
 use Rattle.reader.specs.declared.Command.{Command}
@@ -16,12 +17,16 @@ use Rattle.reader.specs.declared.Reader.{Reader}
 -- amounts and added offsets are the words of an i64
 abbrev pub model_command : Command → ModelCommand
 model_command (New n t s c) = new (record { n = n; t = t; s = s; c = c })
-model_command (Alloc r a) = alloc r (of_z w64 a)
-model_command (Set r a b o) = set r a b o
-model_command (Load a) = load a.register a.pointer (of_z w64 a.offset)
-model_command (Store a) = store a.register a.pointer (of_z w64 a.offset)
+model_command (Alloc r a) = alloc r.number (of_z w64 a)
+model_command (Set r a b o) = set r.number a b o
+model_command (Load a) = load a.register.number a.pointer.number (of_z w64 a.offset)
+model_command (Store a) = store a.register.number a.pointer.number (of_z w64 a.offset)
 model_command Report = report
-model_command (Figure r) = figure r
+model_command (Figure r) = figure r.number
+
+-- a command is refused if one of its registers is none of the sixteen
+abbrev pub with_registers : ModelCommand → Res ModelCommand
+with_registers c = ask 12 (all_at_most 15 (registers_of c)) >>= λ _. ok c
 
 -- the byte of each command in a file
 abbrev pub byte_of : Opcode → ℕ

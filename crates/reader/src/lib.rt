@@ -1,20 +1,23 @@
 // Commands read from the bytes of a command file: a byte for the command, then its operands, little-endian.
 #![tactic(auto)]
 
-ghost use Rattle.std.specs.Prelude.{◌≡◌, ◌+◌, ◌<◌, ◌≤◌, length, Some};
+ghost use Rattle.std.specs.Prelude.{◌≡◌, false, [], ◌∷◌, ◌+◌, ◌<◌, ◌≤◌, length, Some, MatchResult};
 ghost use Rattle.std.specs.Int.{w64};
 ghost use Rattle.std.proofs.Common.{of_z};
 ghost use Rattle.model.specs.Lists.{all_at_most};
-ghost use Rattle.model.specs.Command.{field, command_of, registers_of};
-ghost use Rattle.reader.specs.Answer.{model_command, byte_of, operand_count, Reads, next_answer, next_at, Passes};
+ghost use Rattle.model.specs.Command.{field, command_of};
+ghost use Rattle.question.specs.Question.{answer};
+ghost use Rattle.question.specs.declared.Question.TheVariants.{Command as Malformed};
+ghost use Rattle.reader.specs.Answer.{model_command, with_registers, byte_of, operand_count, Reads, next_answer, next_at, Passes};
 
 use question::Question;
+use registers::Register;
 
 // A register, the register that holds the pointer, and the added offset.
 #[derive(Clone, Copy)]
 pub struct Access {
-    pub register: u8,
-    pub pointer: u8,
+    pub register: Register,
+    pub pointer: Register,
     pub offset: i64,
 }
 
@@ -28,11 +31,11 @@ pub enum Command {
         c: u16,
     },
     Alloc {
-        register: u8,
+        register: Register,
         amount: i64,
     },
     Set {
-        register: u8,
+        register: Register,
         tag: u16,
         payload: u64,
         offset: u64,
@@ -41,7 +44,7 @@ pub enum Command {
     Store(Access),
     Report,
     Figure {
-        register: u8,
+        register: Register,
     },
 }
 
@@ -68,15 +71,15 @@ fn signed_at(w: &[u8], at: usize) -> i64
     word_at(w, at).cast_signed()
 }
 
-fn access_of(w: &[u8]) -> Access
+fn access_of(w: &[u8]) -> Result<Access, Question>
     requires { length w.now ≡ 10 }
-    ensures { (result.register ≡ field w.now 0 1) × (result.pointer ≡ field w.now 1 1) × (of_z w64 result.offset ≡ field w.now 2 8) }
+    ensures { MatchResult result (λ a. (a.register.number ≡ field w.now 0 1) × (a.pointer.number ≡ field w.now 1 1) × (of_z w64 a.offset ≡ field w.now 2 8)) (λ q. (q ≡ Malformed) × (all_at_most 15 (field w.now 0 1 ∷ field w.now 1 1 ∷ []) ≡ false)) }
 {
-    Access {
-        register: w[0],
-        pointer: w[1],
+    Ok(Access {
+        register: Register::try_from(w[0])?,
+        pointer: Register::try_from(w[1])?,
         offset: signed_at(w, 2),
-    }
+    })
 }
 
 // ---- The byte of each command
@@ -126,12 +129,12 @@ impl Opcode {
         }
     }
 
-    // The command of its operand bytes.
-    fn command(self, w: &[u8]) -> Command
+    // The command of its operand bytes, if each register is one of the sixteen.
+    fn command(self, w: &[u8]) -> Result<Command, Question>
         requires { length w.now ≡ operand_count self }
-        ensures { model_command result ≡ command_of (byte_of self) w.now }
+        ensures { answer model_command result ≡ with_registers (command_of (byte_of self) w.now) }
     {
-        match self {
+        Ok(match self {
             Opcode::New => Command::New {
                 n: short_at(w, 0),
                 t: short_at(w, 2),
@@ -139,41 +142,26 @@ impl Opcode {
                 c: short_at(w, 6),
             },
             Opcode::Alloc => Command::Alloc {
-                register: w[0],
+                register: Register::try_from(w[0])?,
                 amount: signed_at(w, 1),
             },
             Opcode::Set => Command::Set {
-                register: w[0],
+                register: Register::try_from(w[0])?,
                 tag: short_at(w, 1),
                 payload: word_at(w, 3),
                 offset: word_at(w, 11),
             },
-            Opcode::Load => Command::Load(access_of(w)),
-            Opcode::Store => Command::Store(access_of(w)),
+            Opcode::Load => Command::Load(access_of(w)?),
+            Opcode::Store => Command::Store(access_of(w)?),
             Opcode::Report => Command::Report,
-            Opcode::Figure => Command::Figure { register: w[0] },
-        }
+            Opcode::Figure => Command::Figure {
+                register: Register::try_from(w[0])?,
+            },
+        })
     }
 }
 
 // ---- What stands at a place of a file
-
-// The last of the sixteen registers.
-const LAST: u8 = 15;
-
-// Is each register one of the sixteen? One test of all of them: a type for a register would be made, and could be refused, at five places
-// of `command`, and each that uses one would take the number out again.
-fn registers_hold(command: Command) -> bool
-    ensures { result ≡ all_at_most 15 (registers_of (model_command command)) }
-{
-    match command {
-        Command::New { .. } | Command::Report => true,
-        Command::Alloc { register, .. }
-        | Command::Set { register, .. }
-        | Command::Figure { register } => register <= LAST,
-        Command::Load(a) | Command::Store(a) => a.register <= LAST && a.pointer <= LAST,
-    }
-}
 
 // The command at a place, and the place behind it.
 fn command_at(file: &[u8], at: usize) -> Result<(Command, usize), Question>
@@ -184,11 +172,7 @@ fn command_at(file: &[u8], at: usize) -> Result<(Command, usize), Question>
     let opcode = Opcode::try_from(file[at])?;
     let behind = from + opcode.operands();
     let operands = file.get(from..behind).ok_or(Question::Command)?;
-    let command = opcode.command(operands);
-    if !registers_hold(command) {
-        return Err(Question::Command);
-    }
-    Ok((command, behind))
+    Ok((opcode.command(operands)?, behind))
 }
 
 // What stands at a place: nothing at the file's end and beyond.

@@ -1,13 +1,44 @@
 // The sixteen registers of the command program, Uninitialized at first: the roots.
 #![tactic(auto)]
 
-ghost use Rattle.std.specs.Prelude.{◌≡◌, true, [], ◌∷◌, ◌<◌, get_or, replicate, set};
+ghost use Rattle.std.specs.Prelude.{◌≡◌, true, [], ◌∷◌, ◌<◌, get_or, replicate, set, MatchResult};
 ghost use Rattle.model.specs.Records.{blank, cell_words, whole_cells};
 ghost use Rattle.model.specs.Calls.{cells_in};
+ghost use Rattle.question.specs.declared.Question.TheVariants.{Command};
 ghost use Rattle.value.specs.Value.{value_cell};
 ghost use Rattle.registers.specs.Cells.{unset, cells_of_registers, Good};
 
+use question::Question;
 use value::{Value, Words};
+
+// One of the sixteen: 12 asks that of a command's byte.
+#[derive(Clone, Copy)]
+pub struct Register {
+    number: u8,
+    ghost below: { number < 16 },
+}
+
+impl TryFrom<u8> for Register {
+    type Error = Question;
+
+    ghost try_from_gives = { λ k r. MatchResult r (λ x. x.number ≡ k) (λ q. (q ≡ Command) × (15 < k)) };
+
+    fn try_from(number: u8) -> Result<Register, Question> {
+        match number {
+            0..16 => Ok(Register { number }),
+            _ => Err(Question::Command),
+        }
+    }
+}
+
+impl Register {
+    // Its place among the sixteen.
+    fn index(self) -> usize
+        ensures { result ≡ self.number }
+    {
+        usize::from(self.number)
+    }
+}
 
 #[derive(Clone, Copy)]
 pub struct Registers {
@@ -29,18 +60,16 @@ impl Registers {
         }
     }
 
-    pub fn get(&self, r: usize) -> Value
-        requires { r < 16 }
-        ensures { result ≡ get_or self.now.cells r unset }
+    pub fn get(&self, r: Register) -> Value
+        ensures { result ≡ get_or self.now.cells r.number unset }
     {
-        self.cells[r]
+        self.cells[r.index()]
     }
 
-    pub fn set(&mut self, r: usize, v: Value)
-        requires { r < 16 }
-        ensures { self.new.cells ≡ set self.old.cells r v }
+    pub fn set(&mut self, r: Register, v: Value)
+        ensures { self.new.cells ≡ set self.old.cells r.number v }
     {
-        self.cells[r] = v;
+        self.cells[r.index()] = v;
     }
 
     // The registers of words that are valid cells. `From` can't ask for that, and `TryFrom` would refuse what never comes.
@@ -51,7 +80,7 @@ impl Registers {
     {
         let mut s = Registers::new();
         for i in 0..Registers::COUNT {
-            s.set(i, Words::at(w, i).value());
+            s.cells[i] = Words::at(w, i).value();
         }
         s
     }

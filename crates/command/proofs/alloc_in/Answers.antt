@@ -12,11 +12,11 @@ use Rattle.command.proofs.alloc_in.Goals.{After-from-roots}
 lent : (c : After-from-roots)
     → Lent c.args.image.now c.args.registers.now c.from-roots.result (length c.args.scratch.now)
 lent c =
-    record { held = c.requires.held; there = some_there _ c.is_empty.ensures c.if-is_empty.false; good = c.requires.register_bound.1; words = c.from-roots.ensures.0; long = search rules; room = c.requires.program_scratch_in_bounds }
+    record { held = c.requires.held; there = some_there _ c.is_empty.ensures c.if-is_empty.false; good = c.requires.good; words = c.from-roots.ensures.0; long = search rules; room = c.requires.program_scratch_in_bounds }
 
 pub returns-then-is_empty : goal.returns-then-is_empty
 returns-then-is_empty c =
-    alloc-heapless c.args.register _ c.requires.held c.requires.register_bound.1 (none_there _ c.is_empty.ensures c.if-is_empty.true) (refl, refl)
+    alloc-heapless c.args.register.number _ c.requires.held c.requires.good (none_there _ c.is_empty.ensures c.if-is_empty.true) (refl, refl)
 
 pub from_words-requires : goal.from_words-requires
 from_words-requires c =

@@ -21,19 +21,19 @@ aim c = rw (to_z-of_z w64 c.args.a.offset (search rules)) at c.target_of.ensures
 
 pub returns-then-is_empty : goal.returns-then-is_empty
 returns-then-is_empty c =
-    load-heapless _ _ _ c.requires.held c.requires.register_bound.2 (none_there _ c.is_empty.ensures c.if-is_empty.true) (refl, refl)
+    load-heapless _ _ _ c.requires.held c.requires.good (none_there _ c.is_empty.ensures c.if-is_empty.true) (refl, refl)
 
 pub invariant_of-read_formed : goal.invariant_of-read_formed
 invariant_of-read_formed c = record { formed = c.requires.held.formed (there (goal.at.invariant_of-read_formed c).After-target_of) }
 
 pub returns : goal.returns
 returns c =
-    load-done _ _ _ c.requires.held c.requires.register_bound.2 (there (goal.at.returns c).After-target_of) c.get.result c.get.ensures c.target_of.result (aim (goal.at.returns c).After-target_of) c.in_ok-p.was c.read_formed.result c.read_formed.ensures c.in_ok-v.was (refl, c.set.ensures)
+    load-done _ _ _ c.requires.held c.requires.good (there (goal.at.returns c).After-target_of) c.get.result c.get.ensures c.target_of.result (aim (goal.at.returns c).After-target_of) c.in_ok-p.was c.read_formed.result c.read_formed.ensures c.in_ok-v.was (refl, c.set.ensures)
 
 pub returns-in_err-v : goal.returns-in_err-v
 returns-in_err-v c =
-    load-refused _ _ _ c.requires.held c.requires.register_bound.2 (there (goal.at.returns-in_err-v c).After-target_of) c.get.result c.get.ensures c.target_of.result (aim (goal.at.returns-in_err-v c).After-target_of) c.in_ok-p.was c.read_formed.result c.read_formed.ensures c.in_err-v.was (refused_as c.from_residual-in_err-v.result _ c.from_residual-in_err-v.ensures.1, refl)
+    load-refused _ _ _ c.requires.held c.requires.good (there (goal.at.returns-in_err-v c).After-target_of) c.get.result c.get.ensures c.target_of.result (aim (goal.at.returns-in_err-v c).After-target_of) c.in_ok-p.was c.read_formed.result c.read_formed.ensures c.in_err-v.was (refused_as c.from_residual-in_err-v.result _ c.from_residual-in_err-v.ensures.1, refl)
 
 pub returns-in_err-p : goal.returns-in_err-p
 returns-in_err-p c =
-    load-nowhere _ _ _ c.requires.held c.requires.register_bound.2 (there (goal.at.returns-in_err-p c).After-target_of) c.get.result c.get.ensures c.target_of.result (aim (goal.at.returns-in_err-p c).After-target_of) c.in_err-p.was (refused_as c.from_residual.result _ c.from_residual.ensures.1, refl)
+    load-nowhere _ _ _ c.requires.held c.requires.good (there (goal.at.returns-in_err-p c).After-target_of) c.get.result c.get.ensures c.target_of.result (aim (goal.at.returns-in_err-p c).After-target_of) c.in_err-p.was (refused_as c.from_residual.result _ c.from_residual.ensures.1, refl)

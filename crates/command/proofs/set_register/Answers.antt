@@ -5,7 +5,7 @@ use Rattle.command.proofs.set_register.Goals as goal
 
 pub returns-in_err-v : goal.returns-in_err-v
 returns-in_err-v c w h =
-    set-refused h c.requires.1 _ c.try_from.ensures c.in_err-v.was (refused_as c.from_residual.result _ c.from_residual.ensures.1, refl)
+    set-refused h c.requires _ c.try_from.ensures c.in_err-v.was (refused_as c.from_residual.result _ c.from_residual.ensures.1, refl)
 
 pub returns : goal.returns
-returns c w h = set-done h c.requires.1 _ c.try_from.ensures c.in_ok-v.was c.set.ensures
+returns c w h = set-done h c.requires _ c.try_from.ensures c.in_ok-v.was c.set.ensures

@@ -21,19 +21,19 @@ aim c = rw (to_z-of_z w64 c.args.a.offset (search rules)) at c.target_of.ensures
 
 pub returns-then-is_empty : goal.returns-then-is_empty
 returns-then-is_empty c =
-    store-heapless _ _ _ c.requires.held c.requires.register_bound.2 (none_there _ c.is_empty.ensures c.if-is_empty.true) (refl, refl)
+    store-heapless _ _ _ c.requires.held c.requires.good (none_there _ c.is_empty.ensures c.if-is_empty.true) (refl, refl)
 
 pub returns : goal.returns
 returns c =
     let u = c.get in
-    store-done _ _ _ c.requires.held c.requires.register_bound.2 (there (goal.at.returns c).After-target_of) c.get-2.result c.get-2.ensures c.target_of.result (aim (goal.at.returns c).After-target_of) u.result u.ensures c.in_ok-p.was c.from.ensures c.write_formed.result _ (rw c.from-cell.ensures at c.write_formed.ensures) c.in_ok-write_formed.was
+    store-done _ _ _ c.requires.held c.requires.good (there (goal.at.returns c).After-target_of) c.get-2.result c.get-2.ensures c.target_of.result (aim (goal.at.returns c).After-target_of) u.result u.ensures c.in_ok-p.was c.from.ensures c.write_formed.result _ (rw c.from-cell.ensures at c.write_formed.ensures) c.in_ok-write_formed.was
 
 pub returns-in_err-write_formed : goal.returns-in_err-write_formed
 returns-in_err-write_formed c =
     let u = c.get in
-    store-refused _ _ _ c.requires.held c.requires.register_bound.2 (there (goal.at.returns-in_err-write_formed c).After-target_of) c.get-2.result c.get-2.ensures c.target_of.result (aim (goal.at.returns-in_err-write_formed c).After-target_of) u.result u.ensures c.in_ok-p.was c.from.ensures c.write_formed.result _ (rw c.from-cell.ensures at c.write_formed.ensures) c.in_err-write_formed.was (refused_as c.from_residual-in_err-write_formed.result _ c.from_residual-in_err-write_formed.ensures.1, refl)
+    store-refused _ _ _ c.requires.held c.requires.good (there (goal.at.returns-in_err-write_formed c).After-target_of) c.get-2.result c.get-2.ensures c.target_of.result (aim (goal.at.returns-in_err-write_formed c).After-target_of) u.result u.ensures c.in_ok-p.was c.from.ensures c.write_formed.result _ (rw c.from-cell.ensures at c.write_formed.ensures) c.in_err-write_formed.was (refused_as c.from_residual-in_err-write_formed.result _ c.from_residual-in_err-write_formed.ensures.1, refl)
 
 pub returns-in_err-p : goal.returns-in_err-p
 returns-in_err-p c =
     let u = c.get in
-    store-nowhere _ _ _ c.requires.held c.requires.register_bound.2 (there (goal.at.returns-in_err-p c).After-target_of) c.get-2.result c.get-2.ensures c.target_of.result (aim (goal.at.returns-in_err-p c).After-target_of) u.result u.ensures c.in_err-p.was (refused_as c.from_residual.result _ c.from_residual.ensures.1, refl)
+    store-nowhere _ _ _ c.requires.held c.requires.good (there (goal.at.returns-in_err-p c).After-target_of) c.get-2.result c.get-2.ensures c.target_of.result (aim (goal.at.returns-in_err-p c).After-target_of) u.result u.ensures c.in_err-p.was (refused_as c.from_residual.result _ c.from_residual.ensures.1, refl)

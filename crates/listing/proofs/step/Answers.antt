@@ -3,7 +3,7 @@ use Rattle.std.specs.Prelude.{Some}
 use borrow.Author.Rules.{rules}
 use Rattle.reader.specs.Answer.{next_answer}
 use Rattle.listing.specs.Left.{stands_at}
-use Rattle.listing.proofs.Standing.{never_none, registers-below-16}
+use Rattle.listing.proofs.Standing.{never_none}
 use Rattle.listing.proofs.Advancing.{step-command, step-malformed}
 use Rattle.listing.proofs.step.Goals as goal
 use Rattle.listing.proofs.step.Goals.{After-unwrap_or}
@@ -15,7 +15,6 @@ pub perform-requires : goal.perform-requires
 perform-requires c = record {
   ready = c.requires.going.ready;
   program_words_in_bounds = (search rules, search rules);
-  command_value = registers-below-16 _ _ c.requires.at_in_bounds (rw c.in-Ok.is at (stood_there (goal.at.perform-requires c).After-unwrap_or));
 }
 
 pub returns-in-Ok : goal.returns-in-Ok

@@ -34,14 +34,17 @@ returns-in_err-operands c =
     passed_on _ c.from_residual-in_err-operands.result _ c.from_residual-in_err-operands.ensures.1
     ∙ rw q (stands-short c.args.file.now c.args.at c.requires k (omega (arith, few)))
 
-pub returns-then-not-registers_hold : goal.returns-then-not-registers_hold
-returns-then-not-registers_hold c =
-    let k = known (goal.at.returns-then-not-registers_hold c).After-operands in
-    let r = room (goal.at.returns-then-not-registers_hold c).In_ok-operands in
-    stands-high c.args.file.now c.args.at c.requires k r (rw (← c.in_ok-opcode.ensures, (rw c.in_ok-operands.ensures.ok_part at c.get.ensures.lookup.0).2) at c.command-command.ensures) c.if-not-registers_hold.ensures
+pub returns-in_err-command : goal.returns-in_err-command
+returns-in_err-command c =
+    let k = known (goal.at.returns-in_err-command c).After-operands in
+    let r = room (goal.at.returns-in_err-command c).In_ok-operands in
+    let lent = (rw c.in_ok-operands.ensures.ok_part at c.get.ensures.lookup.0).2 in
+    passed_on _ _ _ c.from_residual-in_err-command.ensures.1
+    ∙ stands-high c.args.file.now c.args.at c.requires k r (rw (← c.in_ok-opcode.ensures, lent) at c.in_err-command.ensures)
 
 pub returns : goal.returns
 returns c =
     let k = known (goal.at.returns c).After-operands in
     let r = room (goal.at.returns c).In_ok-operands in
-    stands-command c.args.file.now c.args.at c.requires k r (rw (← c.in_ok-opcode.ensures, (rw c.in_ok-operands.ensures.ok_part at c.get.ensures.lookup.0).2) at c.command-command.ensures) c.if-not-registers_hold.ensures
+    let lent = (rw c.in_ok-operands.ensures.ok_part at c.get.ensures.lookup.0).2 in
+    stands-command c.args.file.now c.args.at c.requires k r (rw (← c.in_ok-opcode.ensures, lent) at c.in_ok-command.ensures)

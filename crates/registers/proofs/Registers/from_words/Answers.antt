@@ -1,5 +1,5 @@
 use borrow.Author.Rules.{rules}
-use mathlib.Core.Path.{◌≡◌}
+use mathlib.Core.Path.{◌≡◌, refl}
 use lib.ListN.{length}
 use Rattle.registers.proofs.Roots.{loaded-all, valid-here, loaded-more}
 use Rattle.registers.proofs.Registers.from_words.Goals as goal
@@ -14,7 +14,7 @@ value-requires c = rw c.at.ensures (valid-here _ (long (goal.at.value-requires c
 
 pub loop-i-preserved : goal.loop-i-preserved
 loop-i-preserved c =
-    loaded-more _ (long (goal.at.loop-i-preserved c).Start) c.loop-i.invariant c.loop-i-test.true (rw c.at.ensures at c.value.ensures) c.set.new.self c.set.ensures
+    loaded-more _ (long (goal.at.loop-i-preserved c).Start) c.loop-i.invariant c.loop-i-test.true (rw c.at.ensures at c.value.ensures) _ refl
 
 pub returns : goal.returns
 returns c = record {
