@@ -1,5 +1,5 @@
 -- The answers in the model's words: document 01's number and values for each case.
-use Rattle.std.specs.Prelude.{Bool, ◌&&◌, ℕ, Result, ltb, leb, pos, nat_abs, int_lt}
+use Rattle.std.specs.Prelude.{Bool, ◌&&◌, ℕ, Result, ltb, leb}
 use Rattle.model.specs.Res.{Res, ok, ◌>>=◌, ask}
 use Rattle.model.specs.Figure.{Figure as ModelFigure}
 use Rattle.question.specs.Question.{answer}
@@ -7,7 +7,7 @@ use Rattle.question.specs.declared.Question.{Question}
 use Rattle.figure.specs.declared.Figure.{Figure}
 
 abbrev pub model_figure : Figure → ModelFigure
-model_figure f = record { negative = int_lt f.thousandths (pos 0); thousandths = nat_abs f.thousandths }
+model_figure f = record { negative = f.negative; thousandths = f.thousandths }
 
 abbrev pub figured_answer : Result Figure Question → Res ModelFigure
 figured_answer r = answer model_figure r

@@ -13,10 +13,11 @@ use question::Question;
 use std::cmp::Ordering;
 use text::Text;
 
-// A whole number of thousandths, so that zero has no sign.
+// The sign stands beside the thousandths, as the C interface hands them on. An i64 would hold fewer.
 #[derive(Clone, Copy)]
 pub struct Figure {
-    pub thousandths: i64,
+    pub negative: bool,
+    pub thousandths: u64,
 }
 
 // The most thousandths: 999999.999.
@@ -48,16 +49,16 @@ fn thousandths(q: u64, h: u64) -> u64
     round(1000 * q, 1u64 << h)
 }
 
-// The limit on the rounded number, and its sign.
+// The limit on the rounded number. Zero has no sign.
 fn within_limit(negative: bool, k: u64) -> Result<Figure, Question>
     ensures { figured_answer result ≡ limited negative k }
 {
     if MOST < k {
         return Err(Question::Figure);
     }
-    let k = k as i64;
     Ok(Figure {
-        thousandths: if negative { -k } else { k },
+        negative: negative && 0 < k,
+        thousandths: k,
     })
 }
 
@@ -113,8 +114,8 @@ impl Text<'_> {
         requires { Room 25 self.old }
         ensures { Writes (figure_text (model_figure f)) self.old self.new }
     {
-        let k = f.thousandths.unsigned_abs();
-        self.minus(f.thousandths < 0);
+        let k = f.thousandths;
+        self.minus(f.negative);
         self.decimal(k / 1000);
         self.decimals(k);
     }

@@ -242,10 +242,7 @@ impl Words<2> for Figure {
 
     #[tactic(auto, unfolding(crate::specs::Replies::figure_words))]
     fn to_words(self) -> [u64; 2] {
-        [
-            u64::from(self.thousandths < 0),
-            self.thousandths.unsigned_abs(),
-        ]
+        [u64::from(self.negative), self.thousandths]
     }
 }
 

@@ -5,8 +5,6 @@ use Prim.Native.Nat.{ℕ, ◌*◌, ◌-◌, ◌/◌, ◌≤◌}
 use native.Mathlib.Omega.{arith}
 use lib.Dec.{ltb}
 use lib.ListN.{length, length-append}
-use lib.IntN.{pos, nat_abs}
-use lib.Signed.{lt_z}
 use mir.Syntax.{w64}
 use mir.Val.{of_z}
 use Rattle.model.specs.Records.{Cell, plain, ref}
@@ -49,5 +47,5 @@ answer-length (Ok Set) = omega arith
 answer-length (Ok (Load v)) = omega (arith, cell-length (value_cell v))
 answer-length (Ok Store) = omega arith
 answer-length (Ok (Report s)) = omega (arith, spaced-length (numbers s))
-answer-length (Ok (FigureOf f)) = simp length-append (omega (arith, sign-length (lt_z f.thousandths (pos 0)) 0x2D, decimal-length (nat_abs f.thousandths / 1000)))
+answer-length (Ok (FigureOf f)) = simp length-append (omega (arith, sign-length f.negative 0x2D, decimal-length (f.thousandths / 1000)))
 answer-length (Err q) = omega (arith, spaced-length (number q ∷ []))

@@ -1,7 +1,4 @@
 use native.Mathlib.Omega.{arith}
-use mir.Syntax.{w64}
-use mir.ValLaws.{to_z-of_z}
-use borrow.Author.Rules.{rules}
 use Rattle.model.specs.Listing.{figure_text}
 use Rattle.figure.proofs.Digits.{decimal-length}
 use Rattle.figure.proofs.Writes.{writes-both, sign-length}
@@ -12,6 +9,4 @@ decimals-requires c = omega (arith, c.decimal.ensures, decimal-length, c.minus.e
 
 pub returns : goal.returns
 unfolding figure_text
-returns c =
-    rw (← (to_z-of_z w64 c.args.f.thousandths (search rules)), ← c.unsigned_abs-k.ensures.value)
-    (writes-both (writes-both c.minus.ensures c.decimal.ensures) c.decimals.ensures)
+returns c = writes-both (writes-both c.minus.ensures c.decimal.ensures) c.decimals.ensures
