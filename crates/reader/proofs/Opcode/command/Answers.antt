@@ -4,7 +4,7 @@ use native.Mathlib.Omega.{arith}
 use lib.ListN.{length}
 use mir.Syntax.{w64}
 use mir.ValLaws.{to_z-of_z}
-use Rattle.model.specs.Command.{new, alloc, set, load, store, figure, command_of, registers_of}
+use Rattle.model.specs.Command.{new, alloc, set, load, store, figure, field, command_of, registers_of}
 use Rattle.question.proofs.Passing.{passed_on}
 use Rattle.reader.specs.declared.Command.TheVariants.{New, Alloc, Set, Load, Store, Report, Figure}
 use Rattle.reader.proofs.Fields.{field_one}
@@ -20,8 +20,8 @@ pub returns-in_err-try_from-in-Alloc : goal.returns-in_err-try_from-in-Alloc
 unfolding command_of registers_of
 returns-in_err-try_from-in-Alloc c =
     let l : length c.args.w.now ≡ 9 = rw c.in-Alloc.is at c.requires in
-    let (twelve, high) = rw (field_one c.args.w.now 0 (omega arith)) at c.in_err-try_from-in-Alloc.ensures in
-    passed_on _ _ _ c.from_residual.ensures.1 ∙ rw (c.in-Alloc.is, twelve, first-high _ [] high)
+    let (twelve, high) = c.in_err-try_from-in-Alloc.ensures in
+    passed_on _ _ _ c.from_residual.ensures.1 ∙ rw (c.in-Alloc.is, twelve, first-high (field c.args.w.now 0 1) [] (rw (← field_one c.args.w.now 0 (omega arith)) high))
 
 pub returns-in_ok-try_from-in-Alloc : goal.returns-in_ok-try_from-in-Alloc
 unfolding command_of
@@ -36,8 +36,8 @@ pub returns-in_err-try_from-in-Set : goal.returns-in_err-try_from-in-Set
 unfolding command_of registers_of
 returns-in_err-try_from-in-Set c =
     let l : length c.args.w.now ≡ 19 = rw c.in-Set.is at c.requires in
-    let (twelve, high) = rw (field_one c.args.w.now 0 (omega arith)) at c.in_err-try_from-in-Set.ensures in
-    passed_on _ _ _ c.from_residual-in_err-try_from-in-Set.ensures.1 ∙ rw (c.in-Set.is, twelve, first-high _ [] high)
+    let (twelve, high) = c.in_err-try_from-in-Set.ensures in
+    passed_on _ _ _ c.from_residual-in_err-try_from-in-Set.ensures.1 ∙ rw (c.in-Set.is, twelve, first-high (field c.args.w.now 0 1) [] (rw (← field_one c.args.w.now 0 (omega arith)) high))
 
 pub returns-in_ok-try_from-in-Set : goal.returns-in_ok-try_from-in-Set
 unfolding command_of
@@ -78,8 +78,8 @@ pub returns-in_err-try_from-in-Figure : goal.returns-in_err-try_from-in-Figure
 unfolding command_of registers_of
 returns-in_err-try_from-in-Figure c =
     let l : length c.args.w.now ≡ 1 = rw c.in-Figure.is at c.requires in
-    let (twelve, high) = rw (field_one c.args.w.now 0 (omega arith)) at c.in_err-try_from-in-Figure.ensures in
-    passed_on _ _ _ c.from_residual-in_err-try_from-in-Figure.ensures.1 ∙ rw (c.in-Figure.is, twelve, first-high _ [] high)
+    let (twelve, high) = c.in_err-try_from-in-Figure.ensures in
+    passed_on _ _ _ c.from_residual-in_err-try_from-in-Figure.ensures.1 ∙ rw (c.in-Figure.is, twelve, first-high (field c.args.w.now 0 1) [] (rw (← field_one c.args.w.now 0 (omega arith)) high))
 
 pub returns-in_ok-try_from-in-Figure : goal.returns-in_ok-try_from-in-Figure
 unfolding command_of
