@@ -75,13 +75,19 @@ pub fn read(image: &[u64], p: Pointer) -> Result<Value, Question>
     read_formed(Formed { words: image }, p)
 }
 
-// The value of a cell that 3 was asked of. The cell comes down as a slice to whoever stores it, with `value_good` in their contracts: its words
-// are stored as they came, and a `Value` or `Words` made of them before would have to be turned back into words.
-fn new_value(cell: &[u64]) -> Value
-    requires { value_good cell.now ≡ true }
-    ensures { value_cell result ≡ cell_in cell.now }
-{
-    Words::at(cell, 0).value()
+// A cell's words that 3 was asked of. They are stored as they came.
+#[derive(Clone, Copy)]
+struct Cell<'a> {
+    words: &'a [u64],
+    ghost good: { value_good words.now ≡ true },
+}
+
+impl Cell<'_> {
+    fn value(self) -> Value
+        ensures { value_cell result ≡ cell_in self.entry.words.now }
+    {
+        Words::at(self.words, 0).value()
+    }
 }
 
 // ---- In the nursery
@@ -98,23 +104,21 @@ fn counted_value(image: Formed<'_>, i: usize) -> Value
 }
 
 // The cell takes the place of the i-th.
-fn store_young(image: &mut [u64], i: usize, cell: &[u64]) -> Result<(), Question>
+fn store_young(image: &mut [u64], i: usize, cell: Cell<'_>) -> Result<(), Question>
     requires image { Image image.old (decode image.old) }
     requires i_bound { i < (decode image.old).size.n }
-    requires cell_value { value_good cell.now ≡ true }
-    ensures { Leaves (store_young i (cell_in cell.now) (decode image.old)) image.old result image.new }
+    ensures { Leaves (store_young i (cell_in cell.entry.words.now) (decode image.old)) image.old result image.new }
 {
     let old = counted_value(Formed { words: image }, i);
-    let new = new_value(cell);
+    let new = cell.value();
     counts::recount(image, 0, old, new)?;
-    fields::put_young_cell(image, i, cell);
+    fields::put_young_cell(image, i, cell.words);
     Ok(())
 }
 
-fn write_young(image: &mut [u64], p: Pointer, cell: &[u64]) -> Result<(), Question>
-    requires image { Image image.old (decode image.old) }
-    requires cell_value { value_good cell.now ≡ true }
-    ensures { Leaves (write (decode image.old) (pointer 0 p.base (of_z w64 p.offset)) (cell_in cell.now)) image.old result image.new }
+fn write_young(image: &mut [u64], p: Pointer, cell: Cell<'_>) -> Result<(), Question>
+    requires { Image image.old (decode image.old) }
+    ensures { Leaves (write (decode image.old) (pointer 0 p.base (of_z w64 p.offset)) (cell_in cell.entry.words.now)) image.old result image.new }
 {
     let n = fields::header_of(Formed { words: image }).sizes.n as usize;
     let i = places::index(p, n)?;
@@ -124,23 +128,21 @@ fn write_young(image: &mut [u64], p: Pointer, cell: &[u64]) -> Result<(), Questi
 // ---- In the elder
 
 // The cell takes the place of the old one at the pointer, which is there.
-fn store_old(image: &mut [u64], p: Pointer, old: Value, cell: &[u64]) -> Result<(), Question>
+fn store_old(image: &mut [u64], p: Pointer, old: Value, cell: Cell<'_>) -> Result<(), Question>
     requires image { Image image.old (decode image.old) }
     requires offset_in_bounds { of_z w64 p.offset < length (get_or (decode image.old).old.slots p.base []) }
     requires value { value_cell old ≡ get_or (get_or (decode image.old).old.slots p.base []) (of_z w64 p.offset) blank }
-    requires cell_value { value_good cell.now ≡ true }
-    ensures { Leaves (store_old p.base (get_or (decode image.old).old.slots p.base []) (of_z w64 p.offset) (cell_in cell.now) (decode image.old)) image.old result image.new }
+    ensures { Leaves (store_old p.base (get_or (decode image.old).old.slots p.base []) (of_z w64 p.offset) (cell_in cell.entry.words.now) (decode image.old)) image.old result image.new }
 {
-    let new = new_value(cell);
+    let new = cell.value();
     counts::recount(image, 1, old, new)?;
-    layout::write_elder(image, p.base, p.offset.cast_unsigned(), cell);
+    layout::write_elder(image, p.base, p.offset.cast_unsigned(), cell.words);
     Ok(())
 }
 
-fn write_old(image: &mut [u64], p: Pointer, cell: &[u64]) -> Result<(), Question>
-    requires image { Image image.old (decode image.old) }
-    requires cell_value { value_good cell.now ≡ true }
-    ensures { Leaves (write (decode image.old) (pointer 1 p.base (of_z w64 p.offset)) (cell_in cell.now)) image.old result image.new }
+fn write_old(image: &mut [u64], p: Pointer, cell: Cell<'_>) -> Result<(), Question>
+    requires { Image image.old (decode image.old) }
+    ensures { Leaves (write (decode image.old) (pointer 1 p.base (of_z w64 p.offset)) (cell_in cell.entry.words.now)) image.old result image.new }
 {
     let old = read_old(Formed { words: image }, p)?;
     store_old(image, p, old, cell)
@@ -154,6 +156,7 @@ pub fn write_formed(image: &mut [u64], p: Pointer, cell: &[u64]) -> Result<(), Q
     if !image::value_ok(cell) {
         return Err(Question::Cells);
     }
+    let cell = Cell { words: cell };
     match p.heap {
         0 => write_young(image, p, cell),
         1 => write_old(image, p, cell),

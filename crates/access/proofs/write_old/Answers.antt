@@ -18,10 +18,9 @@ unfolding loaded_cell
 store_old-requires c =
     let t = old-read c.args.image.now c.args.p.base (of_z w64 c.args.p.offset) (sym (was_read (goal.at.store_old-requires c).After-read_old) ∙ ap loaded_cell c.in_ok-old.was) in
     record {
-      image = c.requires.image;
+      image = c.requires;
       offset_in_bounds = t.0;
       value = t.1;
-      cell_value = c.requires.cell_value;
     }
 
 pub returns : goal.returns

@@ -14,13 +14,12 @@ use Rattle.access.proofs.write_young.Goals.{After-index}
 
 found : (c : After-index) → place_answer c.index.result ≡ young_at (decode c.args.image.now) (pointer 0 c.args.p.base (of_z w64 c.args.p.offset))
 found c =
-    c.index.ensures (decode c.args.image.now) ((n-of c.header_of-n.ensures.sizes).reads _ c.requires.image)
+    c.index.ensures (decode c.args.image.now) ((n-of c.header_of-n.ensures.sizes).reads _ c.requires)
 
 pub store_young-requires : goal.store_young-requires
 store_young-requires c = record {
-  image = c.requires.image;
+  image = c.requires;
   i_bound = young-inside _ _ _ (found (goal.at.store_young-requires c).After-index) c.in_ok-i.was;
-  cell_value = c.requires.cell_value;
 }
 
 pub returns : goal.returns
