@@ -7,14 +7,13 @@ ghost use Rattle.barrier.specs.Counts.{barrier_of};
 
 use crate::WriteBarrier;
 
-// Count words as counts, and back, where they stand: an array made anew would be copied. By index: nothing is known of what `zip` of an
-// `iter_mut` has written.
+// Count words as counts, and back, where they stand. Not by `zip`: nothing is known of what its `iter_mut` has written.
 fn narrow(words: &[u64], counts: &mut [u32; WriteBarrier::SIZE])
     requires { (length words.now ≡ cache) × (all_at_most most words.now ≡ true) }
     ensures { counts.new ≡ words.now }
 {
-    for i in 0..WriteBarrier::SIZE {
-        counts[i] = words[i] as u32;
+    for (i, count) in counts.iter_mut().enumerate() {
+        *count = words[i] as u32;
     }
 }
 
@@ -22,8 +21,8 @@ fn widen(from: &[u32; WriteBarrier::SIZE], words: &mut [u64])
     requires { length words.old ≡ cache }
     ensures { words.new ≡ from.now }
 {
-    for i in 0..WriteBarrier::SIZE {
-        words[i] = from[i] as u64;
+    for (i, word) in words.iter_mut().enumerate() {
+        *word = u64::from(from[i]);
     }
 }
 
@@ -42,7 +41,7 @@ pub fn load(flag: u64, words: &[u64]) -> WriteBarrier
 pub fn flag_word(barrier: WriteBarrier) -> u64
     ensures { result ≡ flag (barrier_of barrier) }
 {
-    barrier.present as u64
+    u64::from(barrier.present)
 }
 
 // The counts of an absent barrier are stored as zero.

@@ -7,7 +7,7 @@ use Rattle.barrier.proofs.words.flag_word.Goals as goal
 
 pub returns : goal.returns
 unfolding flag
-returns c = go c.args.barrier.present
+returns c = rw c.from.ensures (go c.args.barrier.present)
   where
     go : (t : Bool) → bool_byte t ≡ flag (barrier_if t c.args.barrier.counts)
     go true = refl

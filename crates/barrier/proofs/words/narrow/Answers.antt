@@ -19,11 +19,10 @@ pub bounds-words-i : goal.bounds-words-i
 unfolding cache
 bounds-words-i c = search rules
 
-pub overflow_cast-counts : goal.overflow_cast-counts
+pub overflow_cast-count : goal.overflow_cast-count
 unfolding most
-overflow_cast-counts c =
-    let s = c.before.before.before in
-    omega (arith, all_at_most-at most s.args.words.now c.loop-i.i s.requires.1)
+overflow_cast-count c =
+    omega (arith, all_at_most-at most c.args.words.now c.loop-i.i c.requires.1)
 
 pub loop-i-preserved : goal.loop-i-preserved
 unfolding cache

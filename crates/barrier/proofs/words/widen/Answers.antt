@@ -18,9 +18,13 @@ pub bounds-words-i : goal.bounds-words-i
 unfolding cache
 bounds-words-i c = omega (arith, copied-length c.loop-i.invariant (from-long (goal.at.bounds-words-i c).Start) c.requires)
 
+pub bounds-from-i : goal.bounds-from-i
+unfolding cache
+bounds-from-i c = omega (arith, c.requires, c.loop-i-test.true)
+
 pub loop-i-preserved : goal.loop-i-preserved
 unfolding cache
-loop-i-preserved c = copied_more c.loop-i.invariant (from-long (goal.at.loop-i-preserved c).Start) c.requires c.loop-i-test.true
+loop-i-preserved c = rw c.from.ensures (copied_more c.loop-i.invariant (from-long (goal.at.loop-i-preserved c).Start) c.requires (omega (arith, c.requires, c.loop-i-test.true)))
 
 pub shape_of-words : goal.shape_of-words
 unfolding cache
@@ -28,4 +32,4 @@ shape_of-words c = copied-length c.loop-i.invariant (from-long (goal.at.shape_of
 
 pub returns : goal.returns
 unfolding cache
-returns c = copied_all c.loop-i.invariant (from-long (goal.at.returns c).Start) c.requires c.loop-i-test.false
+returns c = copied_all c.loop-i.invariant (from-long (goal.at.returns c).Start) c.requires (omega (arith, c.requires, c.loop-i-test.false))
