@@ -146,11 +146,11 @@ const MOST: Sizes = Sizes {
     c: 512,
 };
 
-#[tactic(auto, using(std::proofs::Common::tests), unfolding(model::specs::Run::program_bounds))]
+#[tactic(auto, unfolding(model::specs::Run::program_bounds, model::specs::Run::largest))]
 fn is_bounded(z: Sizes) -> bool
     ensures { result ≡ program_bounds (model_sizes z) }
 {
-    z.n <= MOST.n && z.t <= MOST.t && z.s <= MOST.s && z.c <= MOST.c
+    z.within(MOST)
 }
 
 // The first heap, with its words: 14 got a yes. 1 asks of the program's limits.

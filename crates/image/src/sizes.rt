@@ -7,13 +7,12 @@ ghost use Rattle.model.specs.Calls.{scratch_length};
 ghost use Rattle.image.specs.Places.{model_sizes};
 
 // The bounds of the sizes.
-const MOST_N: u64 = 2048;
-
-const MOST_T: u64 = 8192;
-
-const MOST_S: u64 = 8192;
-
-const MOST_C: u64 = 65536;
+const MOST: Sizes = Sizes {
+    n: 2048,
+    t: 8192,
+    s: 8192,
+    c: 65536,
+};
 
 // The bound of the root cells.
 pub const ROOTS: u64 = 4096;
@@ -27,10 +26,19 @@ pub struct Sizes {
 }
 
 impl Sizes {
+    // Is none above its bound?
+    #[tactic(auto, using(std::proofs::Common::tests))]
+    pub fn within(self, most: Sizes) -> bool
+        ensures { result ≡ (leb self.n most.n && leb self.t most.t && leb self.s most.s && leb self.c most.c) }
+    {
+        self.n <= most.n && self.t <= most.t && self.s <= most.s && self.c <= most.c
+    }
+
+    #[tactic(auto, unfolding(model::specs::Heap::in_bounds))]
     pub fn in_bounds(self) -> bool
         ensures { result ≡ in_bounds (model_sizes self) }
     {
-        self.n <= MOST_N && self.t <= MOST_T && self.s <= MOST_S && self.c <= MOST_C
+        self.within(MOST)
     }
 
     // The words of an image, if the sizes are within bounds.
