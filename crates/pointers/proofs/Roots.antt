@@ -5,7 +5,6 @@ use mathlib.Core.List.{List, map}
 use Prim.Native.Nat.{ℕ, ◌+◌, ◌-◌, ◌≤◌}
 use native.Mathlib.Nat.{sub-zero}
 use native.Mathlib.Omega.{arith}
-use lib.ListN.{length}
 use Rattle.model.specs.Records.{Ptr, Cell, cell_words, all_valid, whole_cells}
 use Rattle.model.specs.Collector.{swap_cell}
 use Rattle.model.specs.Calls.{cells_in}
