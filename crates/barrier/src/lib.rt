@@ -15,7 +15,7 @@ use question::Question;
 use value::Value;
 
 // The counts of an absent barrier are taken as zero, whatever the array holds. They stand first, where the barrier is aligned: each step
-// copies them. `present` stands beside them: an Option of the array would be copied as a whole too, and is no plainer.
+// copies them. `present` stands beside them: an Option of the array would be copied as a whole too, and each step would take it apart.
 #[derive(Clone, Copy)]
 pub struct WriteBarrier {
     pub counts: [u32; WriteBarrier::SIZE],

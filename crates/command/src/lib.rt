@@ -24,8 +24,8 @@ use reader::{Access, Command};
 use registers::{Register, Registers};
 use value::{Pointer, Value, Words};
 
-// The heap's words in a buffer, and the registers. Without a heap the words are 0: the commands get the empty image then, of which
-// the contracts speak as of any other (`Held`).
+// The heap's words in a buffer, and the registers. Without a heap the words are 0, and no Option: the commands get the empty image then,
+// of which the contracts speak as of any other (`Held`).
 #[derive(Clone, Copy)]
 pub struct State {
     pub words: usize,

@@ -64,6 +64,7 @@ pub fn collect_and_push_allocation(
     }
     let c = scratch::collect_nursery(image, roots, scratch)?;
     let mut tally = Work::default();
+    // By number: the words that the survivors stand in are written between two of them.
     for i in 0..c.survivors {
         let m = Member::at(&scratch[image.len()..], i);
         let g = alloc_or_collect(

@@ -37,7 +37,7 @@ pub fn is_full(image: Formed<'_>) -> bool
 
 // ---- Collection
 
-// Lists the members of a collection; how many there are.
+// Lists the members of a collection; how many there are. The nursery has its own, and says why.
 fn members(image: Formed<'_>, roots: &[u64], masks: &[u64], list: &mut [u64]) -> usize
     requires { 3 * (length roots.now / 3 + (decode image.words.now).size.s + (decode image.words.now).size.c) ≤ length list.old }
     ensures { Listed (cells_in roots.now) masks.now image.entry.words.now result list.new }
@@ -124,7 +124,12 @@ fn count_given(image: &mut [u64], src: &[u64]) -> Result<(), Question>
     if !cells::any_crosses(src, 1) {
         return Ok(());
     }
-    let b = cells::count_cells(src, 1, Way::In, fields::barrier_of(Formed { words: image }, 1))?;
+    let b = cells::count_cells(
+        src,
+        1,
+        Way::In,
+        fields::barrier_of(Formed { words: image }, 1),
+    )?;
     fields::put_barrier(image, 1, b);
     Ok(())
 }

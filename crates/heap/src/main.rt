@@ -26,7 +26,7 @@ fn say(rt: &HostRuntime, what: &str, error: &io::Error) {
 
 // ---- Standard input
 
-// How many bytes stand in front of the buffer, and how many of them the last read brought.
+// How many bytes stand in front of the buffer, and how many of them the last read brought: none at the end, as `read` says it.
 #[derive(Clone, Copy)]
 struct Input {
     len: usize,
@@ -60,7 +60,7 @@ fn read_all(rt: &HostRuntime, file: &mut [u8]) -> io::Result<Input>
 
 // ---- Standard output
 
-// What is handed on is counted where it is handed on.
+// What is handed on is counted where it is handed on: the contract says how much that was, also where a write failed.
 fn write_more(rt: &HostRuntime, bytes: &[u8], len: &mut usize) -> io::Result<()>
     requires { len.old + length bytes.now < 2 ^ 64 }
     ensures { len.new ≡ len.old + length bytes.now }

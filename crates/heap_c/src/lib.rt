@@ -30,19 +30,19 @@ use image::formed::Formed;
 use image::sizes::Sizes;
 use question::Question;
 use report::Statistics;
-use value::{Pointer, Value};
+use value::{Pointer, Value, Words};
 
 // What is handed to C as N words. It is no `From` of std's: that has to stand in the type's own crate (an orphan is refused), so that
 // arrays which only C wants, and what they say, would stand in value, collector and figure. By functions and `map` each of the
 // seven calls would name the function beside the type that tells it.
-trait Words<const N: usize>: Copy {
+trait Reply<const N: usize>: Copy {
     ghost words: { Self → List ℕ };
 
     fn to_words(self) -> [u64; N]
         ensures { result ≡ words self };
 }
 
-fn answer<T: Words<N>, const N: usize>(r: Result<T, Question>, out: &mut [u64; N]) -> u64
+fn answer<T: Reply<N>, const N: usize>(r: Result<T, Question>, out: &mut [u64; N]) -> u64
     ensures { Answers (answer_of T.words r) out.old result out.new }
 {
     match r {
@@ -92,7 +92,7 @@ pub extern "C" fn heap_new(image: &mut [u64], n: u64, t: u64, s: u64, c: u64) ->
 // ---- Alloc
 
 // The pointer and the four counts.
-impl Words<7> for Allocation {
+impl Reply<7> for Allocation {
     ghost words = { allocation_words };
 
     fn to_words(self) -> [u64; 7] {
@@ -142,11 +142,11 @@ pub extern "C" fn heap_alloc_formed(
 // ---- Read
 
 // The cell's three words.
-impl Words<3> for Value {
+impl Reply<3> for Value {
     ghost words = { λ v. cell_words (value_cell v ∷ []) };
 
     fn to_words(self) -> [u64; 3] {
-        value::Words::from(self).into()
+        Words::from(self).into()
     }
 }
 
@@ -211,7 +211,7 @@ pub extern "C" fn heap_write_formed(
 
 // ---- Report
 
-impl Words<11> for Statistics {
+impl Reply<11> for Statistics {
     ghost words = { numbers };
 
     fn to_words(self) -> [u64; 11] {
@@ -237,7 +237,7 @@ pub extern "C" fn heap_report_formed(image: &mut [u64], out: &mut [u64; 11]) -> 
 // ---- Figure
 
 // 1 for a figure below zero, then the thousandths.
-impl Words<2> for Figure {
+impl Reply<2> for Figure {
     ghost words = { λ f. figure_words (model_figure f) };
 
     #[tactic(auto, unfolding(crate::specs::Replies::figure_words))]

@@ -79,8 +79,8 @@ impl Registers {
         ensures good { Good result }
     {
         let mut s = Registers::new();
-        for i in 0..Registers::COUNT {
-            s.cells[i] = Words::at(w, i).value();
+        for (i, cell) in s.cells.iter_mut().enumerate() {
+            *cell = Words::at(w, i).value();
         }
         s
     }

@@ -4,7 +4,7 @@ use mir.Syntax.{w64}
 use mir.Val.{of_z}
 use mir.ValLaws.{to_z-of_z}
 use Rattle.heap_c.proofs.Replying.{words-in}
-use Rattle.heap_c.proofs.AllocationWords7.to_words.Goals as goal
+use Rattle.heap_c.proofs.AllocationReply7.to_words.Goals as goal
 
 pub returns : goal.returns
 returns c =
