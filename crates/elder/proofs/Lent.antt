@@ -25,7 +25,7 @@ use Rattle.slots.proofs.Counts.{held-places, packed-sum}
 use Rattle.slots.proofs.Parts.{lent, lent_is}
 use Rattle.image.specs.Laid.{Laid}
 use Rattle.image.specs.declared.places.Layout.{Layout}
-use Rattle.layout.proofs.Tail.{slots-inside, slots-at-is, lens-lent, parts-formed}
+use Rattle.layout.proofs.Tail.{slots-at-is, lens-lent, parts-formed}
 use Rattle.fields.specs.Fields.{Reads}
 use Rattle.elder.specs.Steps.{Listed}
 
@@ -41,9 +41,8 @@ module _ {w : List ℕ} {h : Heap} (i : Image w h) {l : Layout} (p : Laid w l) w
   slots_lent =
       let a : l.young - l.slots ≡ l.s = omega (arith, p.young) in
       let b : l.old ≡ l.slots + (l.old - l.slots) = omega (arith, p.young, p.old) in
-      let cells : old_cells_in w l ≡ drop (l.old - l.slots) (lent l.slots w) =
-      lent_is w l.old (omega (arith, p.end)) ∙ ap (λ (k : ℕ). drop k w) b ∙ rw (lent_is w l.slots (slots-inside i p)) (sym (drop-drop (l.old - l.slots) l.slots w)) in
-      let lens : lens_in w l ≡ take l.s (lent l.slots w) = rw (a, lent_is w l.slots (slots-inside i p)) in
+      let cells : old_cells_in w l ≡ drop (l.old - l.slots) (drop l.slots w) = lent_is w l.old (omega (arith, p.end)) ∙ ap (λ (k : ℕ). drop k w) b ∙ sym (drop-drop (l.old - l.slots) l.slots w) in
+      let lens : lens_in w l ≡ take l.s (drop l.slots w) = rw a in
       rw (lens, cells) (slots-at-is i p)
 
   lens-count : length (lens_in w l) ≡ h.size.s

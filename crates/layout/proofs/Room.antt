@@ -6,7 +6,7 @@ use Prim.Native.Nat.{ℕ, zero, suc, ◌+◌, ◌-◌, ◌*◌, ◌≤◌, ◌<�
 use native.Mathlib.Nat.{not-suc-le-zero, le_of_suc-le-suc}
 use native.Mathlib.Omega.{arith}
 use lib.Dec.{ltb, leb}
-use lib.ListN.{length, get_or, set, take, drop, length-map}
+use lib.ListN.{length, get_or, set, take, drop, length-map, length-drop}
 use borrow.Author.Tests.{lt-ltb, le-ltb, le-leb, lt-leb}
 use Rattle.model.specs.Lists.{flat, places, sum}
 use Rattle.model.specs.Res.{ok, ◌>>=◌, ask}
@@ -20,17 +20,17 @@ use Rattle.theorems.proofs.Elder.{Room, room-is}
 use Rattle.theorems.proofs.Kept.{fit-good}
 use Rattle.theorems.proofs.Regions.{lengths-sum}
 use Rattle.theorems.proofs.Res.{bind, holds_at}
-use Rattle.slots.specs.Slots.{slots_at}
+use Rattle.slots.specs.Slots.{slots_in}
+use Rattle.slots.specs.declared.Slots.{Slots}
 use Rattle.slots.proofs.Flat.{map-set}
 use Rattle.slots.proofs.Counts.{held-places}
-use Rattle.slots.proofs.Parts.{lent, lent_length}
 use Rattle.image.specs.Laid.{Laid}
 use Rattle.layout.specs.Elder.{fit_answer, fit_for, fit_words}
 use Rattle.image.specs.declared.places.Layout.{Layout}
 use Rattle.std.specs.Prelude.{Result, Ok, Err}
 use Rattle.question.specs.declared.Question.{Question}
 use Rattle.question.specs.declared.Question.TheVariants as question
-use Rattle.layout.proofs.Tail.{s-is, c-is, slots-inside, slots-at-is, lens-lent}
+use Rattle.layout.proofs.Tail.{s-is, c-is, slots_in-is, lens-lent}
 
 -- `fit_in`
 
@@ -90,13 +90,14 @@ module _ {w : List ℕ} (i : Image w (decode w)) {l : Layout} (p : Laid w l) whe
     unfolding fit_for new_base
     fit-says = holds_at {P = Fits} (bind _ (room-is (decode w).size k (decode w).old (fit-good i.fit).old) (λ _ r. such (r, refl))) (sym e)
 
-    pub fit-base : b < l.s
-    fit-base = omega (arith, fit-says.0.base, fit-says.1, i.fit.old.slots, s-is i p)
+    module _ (x : Slots) (d : x.words.now ≡ drop l.slots w) (is : x.s ≡ l.s) (ia : x.at ≡ l.old - l.slots) where
+      pub fit-base : b < x.s
+      fit-base = omega (arith, is, fit-says.0.base, fit-says.1, i.fit.old.slots, s-is i p)
 
-    pub fit-cells : (in_use (set (slots_at l.s (l.old - l.slots) (lent l.slots w)) b []) + k) * 3 ≤ length (lent l.slots w) - (l.old - l.slots)
-    unfolding in_use
-    fit-cells =
-        let cells = rw fit-says.1 at fit-says.0.cells in
-        rw (slots-at-is i p) (omega (arith, lent_length w l.slots (slots-inside i p), p.young, p.old, p.end, c-is i p))
+      pub fit-cells : (in_use (set (slots_in x) b []) + k) * 3 ≤ length x.words.now - x.at
+      unfolding in_use
+      fit-cells =
+          let cells = rw fit-says.1 at fit-says.0.cells in
+          rw (slots_in-is i p x d is ia, d, ia) (omega (arith, length-drop l.slots w, p.young, p.old, p.end, c-is i p))
 
 pub ruleset rooms = (fit-past, fit-elem, fit_none, fit_at, fit-room, fit-for, fit-base, fit-cells)

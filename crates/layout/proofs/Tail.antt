@@ -19,12 +19,13 @@ use Rattle.theorems.proofs.Cells.{words-length}
 use Rattle.theorems.proofs.Image.{image-decode, image-sized}
 use Rattle.words.specs.Words.{padded}
 use Rattle.words.proofs.Laws.{padded-length}
-use Rattle.slots.specs.Slots.{Packed, slots_of, slots_at, Elder, Changed, read_old, ReadBy}
+use Rattle.slots.specs.declared.Slots.{Slots}
+use Rattle.slots.specs.Slots.{Packed, slots_of, slots_at, slots_in, Elder, ElderIn, Changed, ChangedIn, read_old, ReadBy}
 use Rattle.trace.specs.Words.{pointer}
 use Rattle.std.specs.Prelude.{Option}
 use Rattle.value.specs.declared.Words.{Words}
 use Rattle.slots.proofs.Counts.{packed-is, elder-is, slots_length}
-use Rattle.slots.proofs.Parts.{lent, returned, lent_is, lent_length, returned-is}
+use Rattle.slots.proofs.Parts.{lent, lent_is}
 use Rattle.slots.proofs.Changes.{joint-cells, joint-elder, joint-changed}
 use Rattle.image.specs.Places.{Sized}
 use Rattle.image.specs.Laid.{Laid}
@@ -103,9 +104,6 @@ module _ {w : List ℕ} {h : Heap} (i : Image w h) where
     pub c-is : l.c ≡ h.size.c
     c-is = p.c ∙ ap (λ (z : Sizes). z.c) sizes-is
 
-    pub slots-inside : l.slots ≤ length w
-    slots-inside = omega (arith, p.young, p.old, p.end)
-
     lens-length : length (map length ss) ≡ l.s
     lens-length = length-map ss length ∙ i.fit.old.slots ∙ sym s-is
 
@@ -117,44 +115,45 @@ module _ {w : List ℕ} {h : Heap} (i : Image w h) where
         let all : length w ≡ length (front h) + (length (map length ss) + (length (cell_words h.young.cells) + length (padded (cell_words (flat ss)) (h.size.c * 3)))) = rw w-is (simp length-append) in
         omega (arith, lens-length, young-length, cells-length, c-is, p.young, p.old, p.end)
 
-    tail-is : lent l.slots w ≡ back h ss
-    tail-is = lent_is w l.slots slots-inside ∙ rw w-is (drop_at (front h) (back h ss) l.slots slots-is)
+    tail-is : drop l.slots w ≡ back h ss
+    tail-is = rw w-is (drop_at (front h) (back h ss) l.slots slots-is)
 
     -- the elder's words, as they are lent to be written
-    elder-in : Elder l.s (l.old - l.slots) (lent l.slots w) ss
+    elder-in : Elder l.s (l.old - l.slots) (drop l.slots w) ss
     elder-in = rw tail-is (joint-elder (map length ss) (cell_words h.young.cells) (padded (cell_words (flat ss)) (h.size.c * 3)) lens-length young-length packed-in)
 
-    pub slots-at-is : slots_at l.s (l.old - l.slots) (lent l.slots w) ≡ ss
+    pub slots-at-is : slots_at l.s (l.old - l.slots) (drop l.slots w) ≡ ss
     slots-at-is = elder-is elder-in
 
-    pub tail-formed : Elder l.s (l.old - l.slots) (lent l.slots w) (slots_at l.s (l.old - l.slots) (lent l.slots w))
-    tail-formed = rw slots-at-is elder-in
-
-    pub hits-are : (q : Ptr) {r : ℕ} → r ≡ length (keep_if (holds q) (flat (slots_at l.s (l.old - l.slots) (lent l.slots w)))) → r ≡ length (keep_if (holds q) (flat ss))
-    hits-are q e = rw slots-at-is at e
-
-    pub inside-slot : (b o : ℕ) → o < length (get_or ss b []) → o < length (get_or (slots_at l.s (l.old - l.slots) (lent l.slots w)) b [])
-    inside-slot b o q = rw slots-at-is q
-
     -- and as they come back
-    image-out : {t : List ℕ} {rs : List (List Cell)} → Changed l.s (l.old - l.slots) (lent l.slots w) t rs → length t ≡ length (lent l.slots w) → Image (returned l.slots w t) (with_slots rs h)
+    image-out : {t : List ℕ} {rs : List (List Cell)} → Changed l.s (l.old - l.slots) (drop l.slots w) t rs → length t ≡ length (drop l.slots w) → Image (take l.slots w ++ t) (with_slots rs h)
     image-out {t} {rs} c k =
         let back_is : t ≡ back h rs =
         rw cells-length at (joint-changed (map length ss) (cell_words h.young.cells) (padded (cell_words (flat ss)) (h.size.c * 3)) lens-length young-length (rw tail-is at c) (rw tail-is at k)) in
         let front-is : take l.slots w ≡ front h = rw w-is (take_at (front h) (back h ss) l.slots slots-is) in
-        let room : in_use rs ≤ h.size.c = omega (arith, c.elder.packed.fits, length-drop (l.old - l.slots) t, lent_length w l.slots slots-inside, p.young, p.old, p.end, c-is) in
+        let room : in_use rs ≤ h.size.c = omega (arith, c.elder.packed.fits, length-drop (l.old - l.slots) t, length-drop l.slots w, p.young, p.old, p.end, c-is) in
         record {
-          is = rw (returned-is w l.slots slots-inside t, front-is, back_is) (sym (split h rs));
+          is = rw (front-is, back_is) (sym (split h rs));
           fit = fit-slots h rs i.fit (slots_length c.elder ∙ s-is) room c.elder.packed.valid;
         }
 
+    module _ (x : Slots) (b : x.words.now ≡ drop l.slots w) (is : x.s ≡ l.s) (ia : x.at ≡ l.old - l.slots) where
+      pub slots_in-is : slots_in x ≡ ss
+      slots_in-is = rw (b, is, ia) slots-at-is
+
+      pub lent-formed : ElderIn x
+      lent-formed = rw (b, is, ia, slots-at-is) elder-in
+
+      pub inside-slot : (k o : ℕ) → o < length (get_or ss k []) → o < length (get_or (slots_in x) k [])
+      inside-slot k o q = rw slots_in-is q
+
+      pub hits-are : (q : Ptr) {r : ℕ} → r ≡ length (keep_if (holds q) (flat (slots_in x))) → r ≡ length (keep_if (holds q) (flat ss))
+      hits-are q e = rw slots_in-is at e
+
     -- and as they are lent to be read
 
-    rest-is : drop l.slots w ≡ back h ss
-    rest-is = sym (lent_is w l.slots slots-inside) ∙ tail-is
-
     pub lens-lent : take (l.young - l.slots) (drop l.slots w) ≡ map length ss
-    lens-lent = let e : l.young - l.slots ≡ l.s = omega (arith, p.young) in rw (rest-is, e) (take_at (map length ss) _ l.s lens-length)
+    lens-lent = let e : l.young - l.slots ≡ l.s = omega (arith, p.young) in rw (tail-is, e) (take_at (map length ss) _ l.s lens-length)
 
     cells-lent : lent l.old w ≡ padded (cell_words (flat ss)) (h.size.c * 3)
     cells-lent =
@@ -162,7 +161,7 @@ module _ {w : List ℕ} {h : Heap} (i : Image w h) where
         lent_is w l.old (omega (arith, p.end))
         ∙ ap (λ (k : ℕ). drop k w) e
         ∙ sym (drop-drop (l.old - l.slots) l.slots w)
-        ∙ rw rest-is (joint-cells (map length ss) (cell_words h.young.cells) _ lens-length young-length)
+        ∙ rw tail-is (joint-cells (map length ss) (cell_words h.young.cells) _ lens-length young-length)
 
     packed-at : Packed (take (l.young - l.slots) (drop l.slots w)) (lent l.old w) ss
     packed-at = rw (lens-lent, cells-lent) packed-in
@@ -183,9 +182,11 @@ module _ {w : List ℕ} {h : Heap} (i : Image w h) where
 pub turned-image : {g : List (List Cell) → List (List Cell)} {w v : List ℕ} → Image w (decode w) → Turned g w v → Image v (decode v)
 turned-image {w = w} i t = let j = t.turned (decode w) i in rw (image-decode j) j
 
-module _ {w : List ℕ} {l : Layout} (p : Laid w l) where
-  pub tail_turned : {g : List (List Cell) → List (List Cell)} {t : List ℕ} → Changed l.s (l.old - l.slots) (lent l.slots w) t (g (slots_at l.s (l.old - l.slots) (lent l.slots w)))
-      → length t ≡ length (lent l.slots w) → Turned g w (returned l.slots w t)
-  tail_turned c k = record { turned = λ h i. image-out i p (rw (slots-at-is i p) at c) k }
+-- once the words are handed back
+pub tail-turned : {g : List (List Cell) → List (List Cell)} {w : List ℕ} {l : Layout} → Laid w l → {x y : Slots} {f t : List ℕ} → x.words.now ≡ drop l.slots w → x.s ≡ l.s → x.at ≡ l.old - l.slots → ChangedIn x y (g (slots_in x)) → f ≡ take l.slots w → t ≡ y.words.now
+    → Turned g w (f ++ t)
+tail-turned {g} {w} {l} p {x} {y} b is ia c f e = record {
+  turned = λ h i. rw (f, e) (image-out i p (rw (slots_in-is i p x b is ia, is, ia, b) at c.changed) (rw b at c.same.len));
+}
 
-pub ruleset tails = (image-says-sized, turned-image, tail-formed, hits-are, parts-formed, read_is, tail_turned)
+pub ruleset tails = (image-says-sized, turned-image, lent-formed, inside-slot, hits-are, parts-formed, read_is, tail-turned)

@@ -17,7 +17,8 @@ use Rattle.theorems.proofs.Contents.{valid-all, all_valid_lem, keep-from}
 use Rattle.theorems.proofs.Elder.{flat_keep, keep-length}
 use Rattle.words.specs.Words.{padded}
 use Rattle.words.proofs.Laws.{drop_past, zeroed}
-use Rattle.slots.specs.Slots.{Elder, Changed, between, stepped, stepped_to}
+use Rattle.slots.specs.declared.Slots.{Slots}
+use Rattle.slots.specs.Slots.{Elder, Changed, Same, between, stepped, stepped_to}
 use Rattle.slots.proofs.Flat.{flat_append, words_append, use-next, use-take, use-split, map-set}
 use Rattle.slots.proofs.Counts.{packed-rest, slots_length}
 use Rattle.slots.proofs.Parts.{lent, returned, lent_is, lent_length, returned-is, take_put, drop-put, between_put, length-put, take-store, drop-store, between-store}
@@ -229,5 +230,8 @@ module _ {ps : List Ptr} {ss : List (List Cell)} {s at : ℕ} {w₀ w : List ℕ
       let lens : take s w ≡ map length r = rw (v.lens, all, drop_of_length-le ss {i = b} (omega arith), append-nil r) in
       let valid = valid-all (flat r) (λ d m. all_valid_lem (flat ss) v.start.packed.valid d (keep-from ps 0 ss d m)) in
       rw (returned-is w at pack-inside ys) (changed w v.start.order pack-inside v.same r lens (length c) (omega (arith, keep-less ps ss, v.start.packed.fits)) valid ys words)
+
+pub same-both : {a b c : Slots} → Same a b → Same b c → Same a c
+same-both v w = record { s = w.s ∙ v.s; at = w.at ∙ v.at; len = w.len ∙ v.len; name = w.name ∙ v.name }
 
 pub ruleset packs = (step-none, step-keep, step-drop, step_room, step-source, to_none, to-keep, to_drop, pack-begin, pack-inside, pack-below, pack-behind, pack-room, pack-turn, pack-zero, pack-done)

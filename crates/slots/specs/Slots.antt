@@ -10,6 +10,7 @@ use Rattle.words.specs.Words.{padded}
 use Rattle.trace.specs.Words.{pointer}
 use Rattle.value.specs.declared.Words.{Words}
 use Rattle.slots.specs.declared.Move.{Move}
+use Rattle.slots.specs.declared.Slots.{Slots}
 
 -- the lengths and the cells' words hold the slots, packed in base order, the rest zero
 pub record Packed (ls ws : List ℕ) (slots : List (List Cell)) : Type 0 where
@@ -39,6 +40,25 @@ pub record Elder (s at : ℕ) (w : List ℕ) (slots : List (List Cell)) : Type 0
 pub record Changed (s at : ℕ) (w v : List ℕ) (slots : List (List Cell)) : Type 0 where
   pub elder : Elder s at v slots
   pub same : between s at v ≡ between s at w
+
+-- the same of words that are lent
+
+abbrev pub slots_in : Slots → List (List Cell)
+slots_in x = slots_at x.s x.at x.words.now
+
+abbrev pub ElderIn : Slots → Type 0
+ElderIn x = Elder x.s x.at x.words.now (slots_in x)
+
+-- the words are those that were lent, and stand as they stood
+pub record Same (before after : Slots) : Type 0 where
+  pub s : after.s ≡ before.s
+  pub at : after.at ≡ before.at
+  pub len : length after.words.now ≡ length before.words.now
+  pub name : after.words.ghost_name ≡ before.words.ghost_name
+
+pub record ChangedIn (before after : Slots) (slots : List (List Cell)) : Type 0 where
+  pub changed : Changed before.s before.at before.words.now after.words.now slots
+  pub same : Same before after
 
 -- a cell, or question 8
 

@@ -1,8 +1,7 @@
 // The elder generation's slots, packed in base order, in an image's words.
 //
-// A reading function takes the lengths and the cells' words as two slices. A writing one takes a single slice, and promises what
-// becomes of all of it: s lengths, other words up to `at`, the cells' words.
-// The slice, s and `at` are no struct: it would hold the slice by `&mut`, and that it is an elder's is so only between its writes.
+// A reading function takes the lengths and the cells' words as two slices. What writes is a method of `Slots`, and promises what
+// becomes of all the words that are lent.
 #![tactic(auto)]
 
 ghost use Rattle.std.specs.Prelude.{◌≡◌, true, [], map, ◌+◌, ◌-◌, ◌*◌, ◌^◌, ◌≤◌, ◌<◌, length, get_or, take, set, replicate};
@@ -15,11 +14,30 @@ ghost use Rattle.model.specs.Calls.{cells_in};
 ghost use Rattle.trace.specs.Words.{listed};
 ghost use Rattle.value.specs.Value.{value_cell};
 ghost use Rattle.words.specs.Source.{cells_from, count_of};
-ghost use Rattle.slots.specs.Slots.{Packed, slots_of, slots_at, Elder, Changed, read_old, ReadBy, written, stepped, stepped_to, move_of};
+ghost use Rattle.slots.specs.Slots.{Packed, slots_of, slots_in, ElderIn, Same, ChangedIn, read_old, ReadBy, written, stepped, stepped_to, move_of};
 
 use trace::Member;
 use value::{Pointer, Value, Words};
 use words::{Hole, Source};
+
+// The elder's slots in words that are lent: s lengths, other words up to `at`, the cells' words.
+#[derive(Drop)]
+pub struct Slots<'a> {
+    pub words: &'a mut [u64],
+    pub s: usize,
+    pub at: usize,
+}
+
+impl Slots<'_> {
+    // The lengths.
+    #[tactic(auto, using(crate::proofs::Counts::counts))]
+    fn lens(&self) -> &[u64]
+        requires { ElderIn self.now }
+        ensures { result.now ≡ take self.now.s self.now.words.now }
+    {
+        &self.words[..self.s]
+    }
+}
 
 // ---- Lengths
 
@@ -53,17 +71,19 @@ pub fn read_old(lens: &[u64], cells: &[u64], base: u64, offset: u64) -> Option<W
     Some(Words::at(cells, words::sum(&lens[..b]) + offset as usize))
 }
 
-// The three words of cell take the place of the cell at (b, o).
-#[tactic(auto, using(crate::proofs::Writes::writes, crate::proofs::Counts::counts))]
-pub fn write_old(w: &mut [u64], s: usize, at: usize, b: usize, o: usize, cell: &[u64])
-    requires elder { Elder s at w.old (slots_at s at w.old) }
-    requires o_in_bounds { o < length (get_or (slots_at s at w.old) b []) }
-    requires cell_len { (length cell.now ≡ 3) × (whole_cells cell.now ≡ true) }
-    ensures { Changed s at w.old w.new (written b o cell.now (slots_at s at w.old)) }
-{
-    let lens = &w[..s];
-    let i = words::sum(&lens[..b]) + o;
-    words::copy_words(&mut w[at..], 3 * i, cell);
+impl Slots<'_> {
+    // The three words of cell take the place of the cell at (b, o).
+    #[tactic(auto, using(crate::proofs::Writes::writes, crate::proofs::Counts::counts))]
+    pub fn write(&mut self, b: usize, o: usize, cell: &[u64])
+        requires elder { ElderIn self.old }
+        requires o_in_bounds { o < length (get_or (slots_in self.old) b []) }
+        requires cell_len { (length cell.now ≡ 3) × (whole_cells cell.now ≡ true) }
+        ensures { ChangedIn self.old self.new (written b o cell.now (slots_in self.old)) }
+    {
+        let at = self.at;
+        let i = words::sum(&self.lens()[..b]) + o;
+        words::copy_words(&mut self.words[at..], 3 * i, cell);
+    }
 }
 
 // ---- Cells that hold a pointer are changed; the words may be those of any valid cells
@@ -136,15 +156,18 @@ pub fn swap_cells(cells: &mut [u64], moved: Move) -> usize
     hits
 }
 
-// The same of every cell of the elder.
-#[tactic(auto, using(crate::proofs::Swapped::swapped, crate::proofs::Counts::counts))]
-pub fn swap_old(w: &mut [u64], s: usize, at: usize, moved: Move) -> usize
-    requires { Elder s at w.old (slots_at s at w.old) }
-    ensures changed { Changed s at w.old w.new (map (map (swap_cell (move_of moved))) (slots_at s at w.old)) }
-    ensures value { result ≡ length (keep_if (holds (move_of moved).0) (flat (slots_at s at w.old))) }
-{
-    let end = at + 3 * words::sum(&w[..s]);
-    swap_cells(&mut w[at..end], moved)
+impl Slots<'_> {
+    // The same of every cell of the elder.
+    #[tactic(auto, using(crate::proofs::Swapped::swapped, crate::proofs::Counts::counts))]
+    pub fn swap(&mut self, moved: Move) -> usize
+        requires { ElderIn self.old }
+        ensures changed { ChangedIn self.old self.new (map (map (swap_cell (move_of moved))) (slots_in self.old)) }
+        ensures value { result ≡ length (keep_if (holds (move_of moved).0) (flat (slots_in self.old))) }
+    {
+        let at = self.at;
+        let end = at + 3 * words::sum(self.lens());
+        swap_cells(&mut self.words[at..end], moved)
+    }
 }
 
 // ---- Cells are placed
@@ -165,17 +188,20 @@ fn hole_of(lens: &[u64], b: usize) -> Hole
     }
 }
 
-// These cells at base b. An allocation that is there is replaced, and its room used again.
-#[tactic(auto, using(crate::proofs::Places::placed, crate::proofs::Counts::counts))]
-pub fn place(w: &mut [u64], s: usize, at: usize, b: usize, src: Source<'_>)
-    requires elder { Elder s at w.old (slots_at s at w.old) }
-    requires b_lt_s { b < s }
-    requires src_in_bounds { (in_use (set (slots_at s at w.old) b []) + count_of src) * 3 ≤ length w.old - at }
-    ensures { Changed s at w.old w.new (set (slots_at s at w.old) b (cells_from src.entry)) }
-{
-    let hole = hole_of(&w[..s], b);
-    words::splice(&mut w[at..], hole, src.words());
-    w[b] = src.count() as u64;
+impl Slots<'_> {
+    // These cells at base b. An allocation that is there is replaced, and its room used again.
+    #[tactic(auto, using(crate::proofs::Places::placed, crate::proofs::Counts::counts))]
+    pub fn place(&mut self, b: usize, src: Source<'_>)
+        requires elder { ElderIn self.old }
+        requires b_lt_s { b < self.old.s }
+        requires src_in_bounds { (in_use (set (slots_in self.old) b []) + count_of src) * 3 ≤ length self.old.words.now - self.old.at }
+        ensures { ChangedIn self.old self.new (set (slots_in self.old) b (cells_from src.entry)) }
+    {
+        let at = self.at;
+        let hole = hole_of(self.lens(), b);
+        words::splice(&mut self.words[at..], hole, src.words());
+        self.words[b] = src.count() as u64;
+    }
 }
 
 // ---- What is no member is dropped
@@ -187,42 +213,47 @@ struct Ends {
     dst: usize,
 }
 
-// Keeps or drops the allocation at b. A base without one costs no search.
-#[tactic(auto, using(crate::proofs::Packs::packs))]
-fn pack_one(w: &mut [u64], at: usize, b: usize, ends: Ends, members: &[u64]) -> Ends
-    requires b_lt_at { (b < at) × (at ≤ length w.old) }
-    requires dst_le_src { (ends.dst ≤ ends.src) × (ends.src + get_or w.old b 0 * 3 ≤ length w.old - at) }
-    ensures w_after { w.new ≡ stepped (keeps (listed members.now) b) at b ends.src ends.dst (get_or w.old b 0 * 3) w.old }
-    ensures src_value { (result.src ≡ ends.src + get_or w.old b 0 * 3) × (result.dst ≡ stepped_to (keeps (listed members.now) b) ends.dst (get_or w.old b 0 * 3)) }
-{
-    let n = 3 * w[b] as usize;
-    let Ends { src, dst } = ends;
-    if n == 0 {
-        return ends;
+impl Slots<'_> {
+    // Keeps or drops the allocation at b. A base without one costs no search.
+    #[tactic(auto, using(crate::proofs::Packs::packs))]
+    fn pack_one(&mut self, b: usize, ends: Ends, members: &[u64]) -> Ends
+        requires b_lt_at { (b < self.old.at) × (self.old.at ≤ length self.old.words.now) }
+        requires dst_le_src { (ends.dst ≤ ends.src) × (ends.src + get_or self.old.words.now b 0 * 3 ≤ length self.old.words.now - self.old.at) }
+        ensures words_after { self.new.words.now ≡ stepped (keeps (listed members.now) b) self.old.at b ends.src ends.dst (get_or self.old.words.now b 0 * 3) self.old.words.now }
+        ensures src_value { (result.src ≡ ends.src + get_or self.old.words.now b 0 * 3) × (result.dst ≡ stepped_to (keeps (listed members.now) b) ends.dst (get_or self.old.words.now b 0 * 3)) }
+        ensures same { Same self.old self.new }
+    {
+        let at = self.at;
+        let n = 3 * self.words[b] as usize;
+        let Ends { src, dst } = ends;
+        if n == 0 {
+            return ends;
+        }
+        if trace::find(members, Member::start(1, b as u64)) {
+            words::move_words(&mut self.words[at..], dst, src, n);
+            return Ends {
+                src: src + n,
+                dst: dst + n,
+            };
+        }
+        self.words[b] = 0;
+        Ends { src: src + n, dst }
     }
-    if trace::find(members, Member::start(1, b as u64)) {
-        words::move_words(&mut w[at..], dst, src, n);
-        return Ends {
-            src: src + n,
-            dst: dst + n,
-        };
-    }
-    w[b] = 0;
-    Ends { src: src + n, dst }
-}
 
-// Keeps the allocations whose pointers are among the members, packed.
-#[tactic(auto, using(crate::proofs::Packs::packs))]
-pub fn pack(w: &mut [u64], s: usize, at: usize, members: &[u64])
-    requires { Elder s at w.old (slots_at s at w.old) }
-    ensures { Changed s at w.old w.new (keep (listed members.now) 0 (slots_at s at w.old)) }
-{
-    let mut ends = Ends { src: 0, dst: 0 };
-    // By index: the lengths are written, and the cells stand in the same words.
-    for b in 0..s {
-        ends = pack_one(w, at, b, ends, members);
+    // Keeps the allocations whose pointers are among the members, packed.
+    #[tactic(auto, using(crate::proofs::Packs::packs))]
+    pub fn pack(&mut self, members: &[u64])
+        requires { ElderIn self.old }
+        ensures { ChangedIn self.old self.new (keep (listed members.now) 0 (slots_in self.old)) }
+    {
+        let (s, at) = (self.s, self.at);
+        let mut ends = Ends { src: 0, dst: 0 };
+        // By index: the lengths are written, and the cells stand in the same words.
+        for b in 0..s {
+            ends = self.pack_one(b, ends, members);
+        }
+        let dst = ends.dst;
+        let freed = ends.src - dst;
+        words::zero_words(&mut self.words[at..], dst, freed);
     }
-    let dst = ends.dst;
-    let freed = ends.src - dst;
-    words::zero_words(&mut w[at..], dst, freed);
 }
