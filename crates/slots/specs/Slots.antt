@@ -49,7 +49,7 @@ slots_in x = slots_at x.s x.at x.words.now
 abbrev pub ElderIn : Slots → Type 0
 ElderIn x = Elder x.s x.at x.words.now (slots_in x)
 
--- the words are those that were lent, and stand as they stood
+-- the same words are lent, as many, with the same s and `at`
 pub record Same (before after : Slots) : Type 0 where
   pub s : after.s ≡ before.s
   pub at : after.at ≡ before.at
