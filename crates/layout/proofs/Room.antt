@@ -90,10 +90,10 @@ module _ {w : List ℕ} (i : Image w (decode w)) {l : Layout} (p : Laid w l) whe
     unfolding fit_for new_base
     fit-says = holds_at {P = Fits} (bind _ (room-is (decode w).size k (decode w).old (fit-good i.fit).old) (λ _ r. such (r, refl))) (sym e)
 
-    module _ (x : Slots) (d : x.words.now ≡ drop l.slots w) (is : x.s ≡ l.s) (ia : x.at ≡ l.old - l.slots) where
-      pub fit-base : b < x.s
-      fit-base = omega (arith, is, fit-says.0.base, fit-says.1, i.fit.old.slots, s-is i p)
+    pub fit-base : {n : ℕ} → n ≡ l.s → b < n
+    fit-base is = omega (arith, is, fit-says.0.base, fit-says.1, i.fit.old.slots, s-is i p)
 
+    module _ (x : Slots) (d : x.words.now ≡ drop l.slots w) (is : x.s ≡ l.s) (ia : x.at ≡ l.old - l.slots) where
       pub fit-cells : (in_use (set (slots_in x) b []) + k) * 3 ≤ length x.words.now - x.at
       unfolding in_use
       fit-cells =
