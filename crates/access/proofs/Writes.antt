@@ -79,20 +79,21 @@ module _ (w : List ℕ) (e : value_good w ≡ true) where
   unfolding value_good
   value-length = eqb-true (length w) 3 (and_right (whole_cells w) (eqb (length w) 3) e)
 
-  pub value-valid : valid_words (get_or w 0 0) (get_or w 1 0) (get_or w 2 0) ≡ true
-  unfolding value_good whole_cells
-  value-valid = go w (and_left (whole_cells w) (eqb (length w) 3) e) value-length
-    where
-      go : (w : List ℕ) → whole_cells w ≡ true → length w ≡ 3 → valid_words (get_or w 0 0) (get_or w 1 0) (get_or w 2 0) ≡ true
-      go [] p q = absurd (omega arith)
-      go (a ∷ []) p q = absurd (omega arith)
-      go (a ∷ b ∷ []) p q = absurd (omega arith)
-      go (a ∷ b ∷ o ∷ w) p q = and_left (valid_words a b o) (whole_cells w) p
+  pub value-whole : whole_cells w ≡ true
+  unfolding value_good
+  value-whole = and_left (whole_cells w) (eqb (length w) 3) e
+
+pub value-valid : (w : List ℕ) → length w ≡ 3 → whole_cells w ≡ true → valid_words (get_or w 0 0) (get_or w 1 0) (get_or w 2 0) ≡ true
+unfolding whole_cells
+value-valid [] q p = absurd (omega arith)
+value-valid (a ∷ []) q p = absurd (omega arith)
+value-valid (a ∷ b ∷ []) q p = absurd (omega arith)
+value-valid (a ∷ b ∷ o ∷ w) q p = and_left (valid_words a b o) (whole_cells w) p
 
 -- in the elder
 
 module _ {w : List ℕ} (b o : ℕ) {old new : Cell} (cell : List ℕ) {r : Result (Unit {0}) Question} {v : List ℕ}
-    (eo : old ≡ get_or (get_or (decode w).old.slots b []) o blank) (en : new ≡ cell_in cell) (g : value_good cell ≡ true)
+    (eo : old ≡ get_or (get_or (decode w).old.slots b []) o blank) (en : new ≡ cell_in cell)
     (l : Leaves (on_counts 1 (recounted 1 old new) (decode w)) w r v) where
   abbrev h : Heap
   h = decode w
@@ -108,9 +109,9 @@ module _ {w : List ℕ} (b o : ℕ) {old new : Cell} (cell : List ℕ) {r : Resu
   unfolding on_counts bar_of on_bar
   counted-old e = some-barrier (λ x. on_old (with_old_bar x) h) (recounted 1 old new h.old.bar) l e
 
-  pub old-there : r ≡ Ok tt → o < length s → Image v (decode v) × ((o < length (get_or (decode v).old.slots b [])) × ((length cell ≡ 3) × (whole_cells cell ≡ true)))
-  unfolding with_old_bar with_old value_good
-  old-there e u = let (x, m, i) = counted-old e in rw (image-decode i) (i, (u, (value-length cell g, and_left (whole_cells cell) (eqb (length cell) 3) g)))
+  pub old-there : r ≡ Ok tt → o < length s → Image v (decode v) × (o < length (get_or (decode v).old.slots b []))
+  unfolding with_old_bar with_old
+  old-there e u = let (x, m, i) = counted-old e in rw (image-decode i) (i, u)
 
   pub old-stored : {u : List ℕ} → r ≡ Ok tt → Turned (written b o cell) v u → Leaves (store_old b s o (cell_in cell) h) w (Ok tt) u
   unfolding with_old_bar with_old with_slots
@@ -135,7 +136,7 @@ out-is y i = go (ltb i y.cursor)
     go false = refl
 
 module _ {w : List ℕ} (i : ℕ) {old new : Cell} (cell : List ℕ) {r : Result (Unit {0}) Question} {v : List ℕ}
-    (eo : old ≡ gone_if (ltb i (decode w).young.cursor) (get_or (decode w).young.cells i blank)) (en : new ≡ cell_in cell) (g : value_good cell ≡ true)
+    (eo : old ≡ gone_if (ltb i (decode w).young.cursor) (get_or (decode w).young.cells i blank)) (en : new ≡ cell_in cell)
     (l : Leaves (on_counts 0 (recounted 0 old new) (decode w)) w r v) where
   abbrev hy : Heap
   hy = decode w
@@ -148,9 +149,9 @@ module _ {w : List ℕ} (i : ℕ) {old new : Cell} (cell : List ℕ) {r : Result
   unfolding on_counts bar_of on_bar
   counted-young e = some-barrier (λ x. on_young (with_bar x) hy) (recounted 0 old new hy.young.bar) l e
 
-  pub young-there : r ≡ Ok tt → i < hy.size.n → Image v (decode v) × ((i < (decode v).size.n) × ((length cell ≡ 3) × (whole_cells cell ≡ true)))
-  unfolding with_young value_good
-  young-there e u = let (x, m, k) = counted-young e in rw (image-decode k) (k, (u, (value-length cell g, and_left (whole_cells cell) (eqb (length cell) 3) g)))
+  pub young-there : r ≡ Ok tt → i < hy.size.n → Image v (decode v) × (i < (decode v).size.n)
+  unfolding with_young
+  young-there e u = let (x, m, k) = counted-young e in rw (image-decode k) (k, u)
 
   pub young-stored : {u : List ℕ} → r ≡ Ok tt → Turns (on_young (with_cell i (cell_in cell))) v u → Leaves (store_young i (cell_in cell) hy) w (Ok tt) u
   unfolding with_young

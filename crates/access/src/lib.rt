@@ -11,7 +11,7 @@ ghost use Rattle.std.proofs.Common.{of_z};
 ghost use Rattle.model.specs.Records.{blank, cell_of, valid_words};
 ghost use Rattle.model.specs.Image.{decode};
 ghost use Rattle.model.specs.Collector.{read, write};
-ghost use Rattle.model.specs.Calls.{value_good, writes, call};
+ghost use Rattle.model.specs.Calls.{writes, call};
 ghost use Rattle.theorems.specs.Doors.{on_formed};
 ghost use Rattle.theorems.specs.Fit.{Image};
 ghost use Rattle.value.specs.Value.{value_cell};
@@ -23,6 +23,7 @@ ghost use Rattle.access.specs.Counting.{gone_if, store_young, store_old, Leaves}
 use image::formed::Formed;
 use question::Question;
 use value::{Pointer, Value, Words};
+use words::cells::Cell;
 
 // The value of a valid cell's words.
 fn cell_value(w: Words) -> Value
@@ -75,19 +76,11 @@ pub fn read(image: &[u64], p: Pointer) -> Result<Value, Question>
     read_formed(Formed { words: image }, p)
 }
 
-// A cell's words that 3 was asked of. They are stored as they came.
-#[derive(Clone, Copy)]
-struct Cell<'a> {
-    words: &'a [u64],
-    ghost good: { value_good words.now ≡ true },
-}
-
-impl Cell<'_> {
-    fn value(self) -> Value
-        ensures { value_cell result ≡ cell_in self.entry.words.now }
-    {
-        Words::at(self.words, 0).value()
-    }
+// The value of a cell that 3 was asked of; its words are stored as they came.
+fn value_of(cell: Cell<'_>) -> Value
+    ensures { value_cell result ≡ cell_in cell.entry.words.now }
+{
+    Words::at(cell.words, 0).value()
 }
 
 // ---- In the nursery
@@ -110,9 +103,9 @@ fn store_young(image: &mut [u64], i: usize, cell: Cell<'_>) -> Result<(), Questi
     ensures { Leaves (store_young i (cell_in cell.entry.words.now) (decode image.old)) image.old result image.new }
 {
     let old = counted_value(Formed { words: image }, i);
-    let new = cell.value();
+    let new = value_of(cell);
     counts::recount(image, 0, old, new)?;
-    fields::put_young_cell(image, i, cell.words);
+    fields::put_young_cell(image, i, cell);
     Ok(())
 }
 
@@ -134,9 +127,9 @@ fn store_old(image: &mut [u64], p: Pointer, old: Value, cell: Cell<'_>) -> Resul
     requires value { value_cell old ≡ get_or (get_or (decode image.old).old.slots p.base []) (of_z w64 p.offset) blank }
     ensures { Leaves (store_old p.base (get_or (decode image.old).old.slots p.base []) (of_z w64 p.offset) (cell_in cell.entry.words.now) (decode image.old)) image.old result image.new }
 {
-    let new = cell.value();
+    let new = value_of(cell);
     counts::recount(image, 1, old, new)?;
-    layout::write_elder(image, p.base, p.offset.cast_unsigned(), cell.words);
+    layout::write_elder(image, p.base, p.offset.cast_unsigned(), cell);
     Ok(())
 }
 

@@ -18,6 +18,7 @@ use image::sizes::Sizes;
 use image::{layout, places};
 use std::ops::Range;
 use value::Words;
+use words::cells::Cell;
 
 // The sizes, the nursery's cursor and counters, and the elder's counter.
 #[derive(Clone, Copy)]
@@ -123,14 +124,13 @@ pub fn young_cell(image: Formed<'_>, i: usize) -> Words
     Words::at(l.young_cells(image.words), i)
 }
 
-pub fn put_young_cell(image: &mut [u64], i: usize, cell: &[u64])
+pub fn put_young_cell(image: &mut [u64], i: usize, cell: Cell<'_>)
     requires image { Image image.old (decode image.old) }
     requires i_bound { i < (decode image.old).size.n }
-    requires cell_len { (length cell.now ≡ 3) × (whole_cells cell.now ≡ true) }
-    ensures { Turns (on_young (with_cell i (cell_in cell.now))) image.old image.new }
+    ensures { Turns (on_young (with_cell i (cell_in cell.entry.words.now))) image.old image.new }
 {
     let l = places::layout_of(image);
-    words::copy_words(&mut image[l.young..l.old], 3 * i, cell);
+    words::copy_words(&mut image[l.young..l.old], 3 * i, cell.words);
 }
 
 // One more allocation, at the cursor; its base.

@@ -21,6 +21,7 @@ use question::Question;
 use slots::{Move, Slots};
 use value::Words;
 use words::Source;
+use words::cells::Cell;
 
 // The elder's cell at (base, offset), if there is one.
 pub fn read_elder(image: Formed<'_>, base: u64, offset: u64) -> Option<Words>
@@ -45,13 +46,12 @@ fn slots_of(words: &mut [u64], l: Layout) -> Slots<'_>
     }
 }
 
-// The three words of cell take the place of the elder's cell at (base, offset).
+// The cell takes the place of the elder's at (base, offset).
 #[tactic(auto, using(crate::proofs::Tail::tails))]
-pub fn write_elder(image: &mut [u64], base: u64, offset: u64, cell: &[u64])
+pub fn write_elder(image: &mut [u64], base: u64, offset: u64, cell: Cell<'_>)
     requires image { Image image.old (decode image.old) }
     requires offset_in_bounds { offset < length (get_or (decode image.old).old.slots base []) }
-    requires cell_len { (length cell.now ≡ 3) × (whole_cells cell.now ≡ true) }
-    ensures { Turned (written base offset cell.now) image.old image.new }
+    ensures { Turned (written base offset cell.entry.words.now) image.old image.new }
 {
     let l = places::layout_of(image);
     let (_, words) = image.split_at_mut(l.slots);

@@ -18,6 +18,7 @@ ghost use Rattle.slots.specs.Slots.{Packed, slots_of, slots_in, ElderIn, Same, C
 
 use trace::Member;
 use value::{Pointer, Value, Words};
+use words::cells::Cell;
 use words::{Hole, Source};
 
 // The elder's slots in words that are lent: s lengths, other words up to `at`, the cells' words.
@@ -72,17 +73,16 @@ pub fn read_old(lens: &[u64], cells: &[u64], base: u64, offset: u64) -> Option<W
 }
 
 impl Slots<'_> {
-    // The three words of cell take the place of the cell at (b, o).
+    // The cell takes the place of the one at (b, o).
     #[tactic(auto, using(crate::proofs::Writes::writes, crate::proofs::Counts::counts))]
-    pub fn write(&mut self, b: usize, o: usize, cell: &[u64])
+    pub fn write(&mut self, b: usize, o: usize, cell: Cell<'_>)
         requires elder { ElderIn self.old }
         requires o_in_bounds { o < length (get_or (slots_in self.old) b []) }
-        requires cell_len { (length cell.now ≡ 3) × (whole_cells cell.now ≡ true) }
-        ensures { ChangedIn self.old self.new (written b o cell.now (slots_in self.old)) }
+        ensures { ChangedIn self.old self.new (written b o cell.entry.words.now (slots_in self.old)) }
     {
         let at = self.at;
         let i = words::sum(&self.lens()[..b]) + o;
-        words::copy_words(&mut self.words[at..], 3 * i, cell);
+        words::copy_words(&mut self.words[at..], 3 * i, cell.words);
     }
 }
 

@@ -15,9 +15,9 @@ overflow_mul-i c =
 pub copy_words-requires : goal.copy_words-requires
 copy_words-requires c =
     let pre = c.requires in
-    omega (arith, cell_room c.layout_of-l.ensures c.args.i pre.i_bound pre.image, pre.cell_len.0)
+    omega (arith, cell_room c.layout_of-l.ensures c.args.i pre.i_bound pre.image, c.args.cell.one)
 
 pub returns : goal.returns
 returns c =
     let pre = c.requires in
-    cell-put c.layout_of-l.ensures c.args.i pre.i_bound _ pre.cell_len.0 pre.cell_len.1 c.copy_words.ensures
+    cell-put c.layout_of-l.ensures c.args.i pre.i_bound _ c.args.cell.one c.args.cell.whole c.copy_words.ensures
