@@ -40,7 +40,7 @@ fn count_both(image: &mut [u64], own: u8, old: Value, new: Value) -> Result<(), 
     Ok(())
 }
 
-// The same, but where neither counts, nothing is done: nor are the 2 KB zeroed that `?` binds there.
+// The same, but where neither counts, nothing is done. Two functions: what `?` binds, 1 KB each time, is zeroed where its function begins.
 pub fn recount(image: &mut [u64], own: u8, old: Value, new: Value) -> Result<(), Question>
     requires { Image image.old (decode image.old) }
     ensures { Leaves (on_counts own (recounted own (value_cell old) (value_cell new)) (decode image.old)) image.old result image.new }

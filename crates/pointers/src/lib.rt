@@ -54,7 +54,7 @@ fn count_all(image: &mut [u64], own: u8, k: usize, moved: Move) -> Result<(), Qu
     Ok(())
 }
 
-// The same, but without one the barrier is not loaded, nor are the 2 KB zeroed that `?` binds there.
+// The same, but without one the barrier is not loaded. Two functions: what `?` binds, 1 KB each time, is zeroed where its function begins.
 fn count(image: &mut [u64], own: u8, k: usize, moved: Move) -> Result<(), Question>
     requires { Image image.old (decode image.old) }
     ensures { Does (count_moved own k (move_of moved)) image.old (done_answer result) image.new }

@@ -175,7 +175,7 @@ fn command_at(file: &[u8], at: usize) -> Result<(Command, usize), Question>
     Ok((opcode.command(operands)?, behind))
 }
 
-// What stands at a place: nothing at the file's end and beyond.
+// What stands at a place: nothing at the file's end and beyond. Not by `then`: nothing is known of what its closure answered.
 pub fn next_at(file: &[u8], at: usize) -> Option<Result<(Command, usize), Question>>
     ensures { next_answer result ≡ next_at file.now at }
 {

@@ -175,7 +175,7 @@ pub fn report_into(image: &mut [u64], lent: &mut Statistics) -> Result<(), Quest
     report_into_formed(image, lent)
 }
 
-// `report_formed` through a record that is lent: what the program runs.
+// `report_formed` through a record that is lent: what the program runs. The two are two as all doors are: for C an owner's image is asked nothing.
 pub fn report_lent_formed(image: &mut [u64]) -> Result<Statistics, Question>
     requires { Image image.old (decode image.old) }
     ensures { reported image.old (report (decode image.old)) ≡ report_outcome result image.new }

@@ -184,7 +184,7 @@ impl Generation<'_> {
         }
     }
 
-    // Enters a cell, if it is a pointer to the heap own: one comparison tells that, where a root takes two divisions.
+    // Enters a cell, if it is a pointer to the heap own. Not a root that is filtered: to one heap a single comparison tells a pointer.
     #[tactic(auto, using(crate::proofs::Entering::pieces))]
     fn enter_own(self, cell: [u64; 3], members: &mut Members<'_>)
         requires { Room members.old (pointers_to self.own (cells_of 1 cell)) }
