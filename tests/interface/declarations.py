@@ -40,10 +40,10 @@ REFUSALS = {
 OF_AN_IMAGE = {1, 2}
 # the functions that make the words of `out`
 FIELDS = {
-    "CELL": (SOURCE, "Words<3> for Value"),
-    "ALLOC": (SOURCE, "Words<7> for Allocation"),
+    "CELL": ("crates/value/src/lib.rt", "From<Words> for [u64; 3]"),
+    "ALLOC": (SOURCE, "Reply<7> for Allocation"),
     "REPORT": ("crates/report/src/lib.rt", "From<Statistics> for [u64; 11]"),
-    "FIGURE": (SOURCE, "Words<2> for Figure"),
+    "FIGURE": (SOURCE, "Reply<2> for Figure"),
 }
 RUST_BOUNDS = {"N": "nursery_cells", "T": "threshold", "S": "elder_slots", "C": "elder_cells"}
 
@@ -283,7 +283,7 @@ def path_of(expression: str, lets: dict[str, str]) -> str:
 
 def fields(file: str, made_by: str) -> list[str]:
     """Of the array that the impl's function makes; a pointer's are named as they are."""
-    body = only(file, rf"^impl {re.escape(made_by)} \{{\n[^}}]*\}};\n\n    fn [^{{]*\{{\n(.*?)^    \}}", text_of(file))
+    body = only(file, rf"^impl {re.escape(made_by)} \{{\n[^}}]*\}};\n\n(?:    #\[[^\n]*\n)?    fn [^{{]*\{{\n(.*?)^    \}}", text_of(file))
     lets = dict(re.findall(r"let (\w+) = (.+);", body))
     made = parts(only(file, r"^        \[(.*)\]$", body))
     return [path_of(part, lets).removeprefix("pointer.").replace(".", "_").upper() for part in made]
@@ -292,8 +292,10 @@ def fields(file: str, made_by: str) -> list[str]:
 def crate_constants() -> Constants:
     kinds = only(VALUE, r"^enum Kind \{\n(.*?)^\}", text_of(VALUE))
     constants = {f"HEAP_KIND_{name.upper()}": int(number) for name, number in re.findall(r"(\w+) = (\d+),", kinds)}
-    for name, number in re.findall(r"const (?:MOST_)?(\w+): u64 = (\d+);", text_of(SIZES)):
-        constants[f"HEAP_MOST_{name}"] = int(number)
+    most = only(SIZES, r"^const MOST: Sizes = Sizes \{\n(.*?)^\}", text_of(SIZES))
+    roots = re.findall(r"^pub const (ROOTS): u64 = (\d+);", text_of(SIZES), re.M)
+    for name, number in re.findall(r"(\w+): (\d+),", most) + roots:
+        constants[f"HEAP_MOST_{name.upper()}"] = int(number)
     for name, place in FIELDS.items():
         constants |= {f"HEAP_{name}_{field}": at for at, field in enumerate([*fields(*place), "WORDS"])}
     return constants
