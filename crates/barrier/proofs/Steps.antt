@@ -5,7 +5,7 @@ use Prim.Native.Nat.{ℕ, ◌+◌, ◌-◌, ◌%◌, ◌^◌, ◌<◌, ◌≤◌
 use native.Mathlib.Omega.{arith}
 use native.Mathlib.Numerals.{add-one}
 use lib.Dec.{eqb}
-use lib.ListN.{get_or, set, replicate}
+use lib.ListN.{get_or, set, replicate, get_or-replicate}
 use borrow.Author.Tests.{lt-ltb, le-ltb}
 use mir.Syntax.{w64}
 use mir.Val.{of_z}
@@ -13,7 +13,7 @@ use Rattle.std.proofs.Common.{Some, None}
 use Rattle.std.specs.Bool.{then_some}
 use Rattle.model.specs.Res.{Res, ok, refuse}
 use Rattle.model.specs.Records.{Ptr, Cell, plain, ref, blank}
-use Rattle.model.specs.Barrier.{Barrier, cache, most, counts, count, up, down, count_in, count_out}
+use Rattle.model.specs.Barrier.{Barrier, cache, most, counts, count, up, down, count_in, count_out, present, absent}
 use Rattle.value.specs.declared.Pointer.{Pointer}
 use Rattle.value.specs.declared.Value.{Value}
 use Rattle.value.specs.declared.Value.TheVariants.{Uninitialized, Int, Bool as BoolV, Float as FloatV, Char, Pointer as PointerV}
@@ -91,7 +91,16 @@ module _ (b s : WriteBarrier) where
   unfolding counts
   opened-present h e = record { is = ap (λ (x : WriteBarrier). x.present) e ∙ h; same = rw h (ap (λ (x : WriteBarrier). x.counts) e) }
 
+-- a full count is no absent barrier's
+full-present : (b : Barrier) (k : ℕ) → k < 256 → 4294967295 ≤ get_or (counts b) k 0 → present (counts b) ≡ b
+unfolding counts cache
+full-present absent k small h = absurd (omega (arith, get_or-replicate {A = ℕ} 256 k 0 0 small))
+full-present (present cs) k small h = refl
+
 module _ (b s : WriteBarrier) (o : Opened b s) (k : ℕ) where
+  pub full_back : k < 256 → 4294967295 ≤ get_or s.counts k 0 → barrier_of s ≡ barrier_of b
+  full_back small h = rw (o.is, o.same) (full-present (barrier_of b) k small (rw o.same at h))
+
   pub up-full : (get_or s.counts k 0 + 1 < 2 ^ 32 → ⊥) → refuse 11 ≡ up k (barrier_of b)
   unfolding up count most
   up-full h = let full : 4294967295 ≤ get_or s.counts k 0 = omega arith in rw (← o.same, le-ltb _ _ full)

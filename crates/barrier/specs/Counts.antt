@@ -1,11 +1,12 @@
 -- What a `WriteBarrier` and a step on it are in the model.
-use Rattle.std.specs.Prelude.{Bool, true, false, ◌&&◌, ◌||◌, not, List, [], ◌∷◌, ℕ, ◌%◌, ◌/◌, eqb}
+use Rattle.std.specs.Prelude.{Bool, true, false, ◌&&◌, ◌||◌, not, List, [], ◌∷◌, ℕ, ◌%◌, ◌/◌, eqb, take}
 use Rattle.model.specs.Res.{Res}
 use Rattle.model.specs.Records.{Cell}
 use Rattle.model.specs.Barrier.{Barrier, absent, present, count_in, count_out}
 use Rattle.barrier.specs.declared.WriteBarrier.{WriteBarrier}
 use Rattle.barrier.specs.declared.Way.{Way}
 use Rattle.barrier.specs.declared.Way.TheVariants.{In, Out}
+use Rattle.barrier.specs.declared.masks.Masks.{Masks}
 
 abbrev pub barrier_if : Bool → List ℕ → Barrier
 barrier_if true cs = present cs
@@ -29,3 +30,6 @@ any_crossing own [] = false
 any_crossing own (a ∷ []) = false
 any_crossing own (a ∷ x ∷ []) = false
 any_crossing own (a ∷ x ∷ o ∷ w) = crossing a own || any_crossing own w
+
+abbrev pub mask_list : Masks → List ℕ
+mask_list m = take m.count m.places

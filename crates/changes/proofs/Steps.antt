@@ -1,15 +1,21 @@
 -- A step of the code against the model's, and what follows it.
-use mathlib.Core.Path.{◌≡◌, ap, ◌∙◌}
+use mathlib.Core.Path.{◌≡◌, refl, ap, ◌∙◌}
+use mathlib.Core.Bool.{false, true≢false}
 use Prim.Native.Nat.{ℕ, suc, ◌+◌, ◌-◌, ◌<◌, ◌≤◌}
 use native.Mathlib.Omega.{arith}
-use Rattle.std.proofs.Common.{Result, Ok, Err}
+use Rattle.std.proofs.Common.{Result, Ok, Err, Option, Some, None}
+use Rattle.std.specs.Option.{is_some}
 use Rattle.model.specs.Res.{Res, ok, refuse, ◌>>=◌}
 use Rattle.model.specs.Records.{Ptr, Cell, ref}
 use Rattle.model.specs.Barrier.{Barrier, count_in, count_out}
 use Rattle.model.specs.Collector.{moved_to}
 use Rattle.question.specs.Question.{number, answer}
 use Rattle.question.specs.declared.Question.{Question}
+use Rattle.value.specs.declared.Pointer.{Pointer}
+use Rattle.value.specs.declared.Value.{Value}
+use Rattle.value.specs.Value.{value_cell, crossing}
 use Rattle.barrier.specs.declared.WriteBarrier.{WriteBarrier}
+use Rattle.barrier.proofs.Steps.{steps-in, steps-out, step-none}
 use Rattle.barrier.specs.Counts.{barrier_of}
 use Rattle.changes.specs.Changes.{times, count_change}
 
@@ -33,6 +39,27 @@ module _ (own : ℕ) (m : Ptr × ℕ) (b : Barrier) {v : Cell} (was : v ≡ ref 
   pub change-in : (d : WriteBarrier) → r ≡ Ok d → {u : Cell} → u ≡ ref (moved_to m) → count_in own u (barrier_of d) ≡ count_change own m b
   unfolding count_change
   change-in d k becomes = ap (λ (c : Cell). count_in own c (barrier_of d)) becomes ∙ then-done _ (count_in own (ref (moved_to m))) r out d k
+
+-- no pointer crosses
+none-crosses : (own : ℕ) (v : Value) (o : Option Pointer) → o ≡ crossing own v → is_some o ≡ false → None ≡ crossing own v
+none-crosses own v None e h = e
+none-crosses own v (Some p) e h = absurd (true≢false h)
+
+-- one change of which a single step counts: v is the value that was, u what it becomes
+module _ (own : ℕ) (m : Ptr × ℕ) (b : Barrier) (v u : Value) (was : value_cell v ≡ ref m.0) (becomes : value_cell u ≡ ref (moved_to m)) (o : Option Pointer) where
+  pub alone-in : o ≡ crossing own v → is_some o ≡ false → count_in own (value_cell u) b ≡ count_change own m b
+  unfolding count_change
+  alone-in e h =
+      let same : ok b ≡ count_out own (ref m.0) b = step-none (steps-out own) b v (none-crosses own v o e h) ∙ ap (λ (c : Cell). count_out own c b) was in
+      ap (λ (c : Cell). count_in own c b) becomes ∙ ap (λ (r : Res Barrier). r >>= count_in own (ref (moved_to m))) same
+
+  pub alone-out : o ≡ crossing own u → is_some o ≡ false → count_out own (value_cell v) b ≡ count_change own m b
+  unfolding count_change
+  alone-out e h = ap (λ (c : Cell). count_out own c b) was ∙ go (count_out own (ref m.0) b)
+    where
+      go : (r : Res Barrier) → r ≡ (r >>= count_in own (ref (moved_to m)))
+      go (ok d) = step-none (steps-in own) d u (none-crosses own u o e h) ∙ ap (λ (c : Cell). count_in own c d) becomes
+      go (refuse q) = refl
 
 -- a step of k: the first i are made, and the others lead to what all come to
 module _ (k : ℕ) (f : Barrier → Res Barrier) (i : ℕ) (b : Barrier) (z : Res Barrier) (left : times (k - i) f b ≡ z) where

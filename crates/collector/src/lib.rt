@@ -115,7 +115,7 @@ fn collect_and_change(
     let g = cycle::collect_and_push_allocation(
         image,
         roots,
-        masks.as_slice(),
+        &masks.places[..masks.count],
         scratch,
         Request::New(amount),
         2,

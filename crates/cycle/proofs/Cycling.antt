@@ -2,7 +2,7 @@
 use mathlib.Core.Path.{◌≡◌, refl, sym, ap, ◌∙◌}
 use mathlib.Core.Bool.{Bool, true, false, ◌&&◌, not, true≢false}
 use mathlib.Core.List.{List}
-use Prim.Native.Nat.{ℕ, zero, suc, ◌+◌, ◌*◌, ◌/◌, ◌≤◌}
+use Prim.Native.Nat.{ℕ, zero, suc, ◌+◌, ◌*◌, ◌/◌, ◌≤◌, ◌<◌}
 use native.Mathlib.Omega.{arith}
 use lib.Dec.{leb, eqb}
 use lib.ListN.{length}
@@ -153,6 +153,14 @@ module _ {w roots s : List ℕ} {what : Request} {left : ℕ} {done : Bool} (r :
 abbrev pub not_yet : Bool → ℕ
 not_yet true = 0
 not_yet false = 2
+
+pub last-falls : (left t : ℕ) (done : Bool) → done ≡ true → (left ≡ 1 → done ≡ false) → 1 ≤ left → 4 * left + not_yet done ≡ t → 5 < t
+last-falls left t done e n l m = go left (rw e at m) (λ f. true≢false (sym e ∙ n f)) l
+  where
+    go : (k : ℕ) → 4 * k + 0 ≡ t → (k ≡ 1 → ⊥) → 1 ≤ k → 5 < t
+    go zero m n l = absurd (omega arith)
+    go (suc zero) m n l = absurd (n refl)
+    go (suc (suc k)) m n l = omega arith
 
 pub first-falls : (left t : ℕ) (done : Bool) → done ≡ false → 4 * left + not_yet done ≡ t → 4 * left + 2 ≡ t
 first-falls left t done e m = rw e at m

@@ -63,11 +63,6 @@ members-split n w i l =
     let e : n ≡ i + (n - i) = omega arith in
     ap (tab (ptr_at w) 0) e ∙ tab-append (ptr_at w) 0 i (n - i) ∙ rw (zero-add, tab-cons (ptr_at w) i n l)
 
--- a survivor's base, where it stands in scratch behind the image
-pub survivor_base : {m : Member} (at i : ℕ) (x : List ℕ) → at ≤ length x → ptr_of m ≡ ptr_at (lent at x) i → m.base ≡ get_or x (at + (3 * i + 1)) 0
-unfolding ptr_at
-survivor_base at i x h e = ap (λ (p : Ptr). p.base) (rw (lent_is x at h) at e) ∙ get_or-drop at x (3 * i + 1) 0
-
 -- the nursery was collected: u is the image then, t scratch
 pub record Begun (w roots s : List ℕ) (what : Request) (c : Collected) (u t : List ℕ) : Type 0 where
   pub ready : Ready w roots s what 2 false
@@ -160,15 +155,11 @@ module _ {w roots s : List ℕ} {what : Request} {c : Collected} {u t : List ℕ
     pub room-now : scratch_length (decode v).size (length roots / 3) ≤ length x
     room-now = rw p.sizes (omega (arith, b.ready.room, p.long))
 
-    pub image-before : length v ≤ length x
-    unfolding scratch_length
-    image-before = omega (arith, length-is, b.ready.room, p.long)
-
     -- the next survivor
     module _ (more : i < moved) where
-      pub survivor-inside : 3 * i + 2 < length (lent (length v) x)
+      pub survivor-inside : length v + (3 * i + 1) < length x
       unfolding scratch_length
-      survivor-inside = omega (arith, lent_length x (length v) image-before, length-is, few-moved, b.ready.room, p.long)
+      survivor-inside = omega (arith, length-is, few-moved, b.ready.room, p.long)
 
       abbrev next : Ptr
       next = ptr_at (drop (image_length z) t) i

@@ -18,7 +18,6 @@ ghost use Rattle.cycle.specs.Outcomes.{Ready, Ran};
 
 use image::formed::Formed;
 use question::Question;
-use trace::Member;
 use turns::{Gave, Request, Work};
 
 #[cycle(alloc_or_collect_collect_and_push_allocation)]
@@ -66,16 +65,8 @@ pub fn collect_and_push_allocation(
     let mut tally = Work::default();
     // By number: the words that the survivors stand in are written between two of them.
     for i in 0..c.survivors {
-        let m = Member::at(&scratch[image.len()..], i);
-        let g = alloc_or_collect(
-            image,
-            roots,
-            masks,
-            scratch,
-            Request::Move(m.base),
-            1,
-            false,
-        )?;
+        let base = scratch::survivor(scratch, image.len(), i);
+        let g = alloc_or_collect(image, roots, masks, scratch, Request::Move(base), 1, false)?;
         tally = turns::note(Formed { words: image }, roots, scratch, i, tally, g);
     }
     let g = alloc_or_collect(image, roots, masks, scratch, what, 2, true)?;

@@ -61,6 +61,14 @@ impl Parts {
     }
 }
 
+// The base of survivor i, where the members stand from `at` on.
+pub fn survivor(scratch: &[u64], at: usize, i: usize) -> u64
+    requires { at + (3 * i + 1) < length scratch.now }
+    ensures { result ≡ get_or scratch.now (at + (3 * i + 1)) 0 }
+{
+    scratch[at + (3 * i + 1)]
+}
+
 // A collection of the elder, its members listed at the end of scratch.
 #[tactic(auto, unfolding(model::specs::Calls::scratch_length))]
 pub fn sweep(
@@ -90,7 +98,12 @@ pub fn collect_nursery(
 {
     let masks = fields::barrier_of(Formed { words: image }, 1).masks();
     let at = image.len();
-    nursery::collect(image, roots, masks.as_slice(), &mut scratch[at..])
+    nursery::collect(
+        image,
+        roots,
+        &masks.places[..masks.count],
+        &mut scratch[at..],
+    )
 }
 
 // The saved allocation at base moved to the elder.

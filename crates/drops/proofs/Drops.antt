@@ -104,6 +104,9 @@ module _ {ps : List Ptr} {ls ws : List ℕ} {ss : List (List Cell)} {z₀ z : Ba
     pub left_end : at + 3 * get_or ls b 0 ≤ length ws
     left_end = omega (arith, v.place, long, use-split ss b inside, v.packed.fits)
 
+    pub left-start : at ≤ length ws
+    left-start = omega (arith, left_end)
+
     pub left-fits : length ws < 2 ^ 64 → Fits w64 (at + 3 * get_or ls b 0)
     left-fits k = omega (arith, left_end)
 

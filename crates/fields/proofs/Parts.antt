@@ -1,5 +1,5 @@
 -- The parts of an image: where they stand, what they are, and the whole with other words in the place of one.
-use mathlib.Core.Path.{◌≡◌, refl, sym, ap}
+use mathlib.Core.Path.{◌≡◌, refl, sym, ap, ◌∙◌}
 use mathlib.Core.List.{List, [], ◌++◌}
 use Prim.Native.Nat.{ℕ, ◌-◌, ◌<◌}
 use native.Mathlib.Omega.{arith}
@@ -89,6 +89,12 @@ module _ {w : List ℕ} {h : Heap} (i : Image w h) where
   s-is : size_s w ≡ h.size.s
   unfolding encode
   s-is = ap (λ (l : List ℕ). get_or l 2 0) i.is
+
+  pub n-read : {n : ℕ} → Reads (λ h. h.size.n) w n → n ≡ size_n w
+  n-read r = sym (n-is ∙ r.reads h i)
+
+  pub s_read : {s : ℕ} → Reads (λ h. h.size.s) w s → s ≡ size_s w
+  s_read r = sym (s-is ∙ r.reads h i)
 
   young-counts-stand : Stands h 1 young_counts_at 256
   unfolding parts_of header sum regions_of

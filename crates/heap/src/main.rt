@@ -2,7 +2,7 @@
 // write fails, the program says so on standard error and ends. Printed is then nothing, or the listing's beginning.
 #![tactic(auto)]
 
-ghost use Rattle.std.specs.Prelude.{◌≡◌, true, false, ◌+◌, ◌^◌, ◌<◌, ◌≤◌, length, MatchResult, IfOk};
+ghost use Rattle.std.specs.Prelude.{◌≡◌, true, false, ◌+◌, ◌^◌, ◌<◌, ◌≤◌, length, MatchResult, IfErr};
 ghost use Rattle.model.specs.Listing.{longest_file};
 ghost use Rattle.heap.specs.Bytes.{Comes, Stops, Prints};
 
@@ -26,36 +26,38 @@ fn say(rt: &HostRuntime, what: &str, error: &io::Error) {
 
 // ---- Standard input
 
-// How many bytes stand in front of the buffer, and how many of them the last read brought: none at the end, as `read` says it.
-#[derive(Clone, Copy)]
+// How many bytes stand in front of the buffer, and how many of them the last read brought: none at the end, as `read` says it, and none
+// where it failed.
+#[derive(Clone, Copy, Default)]
 struct Input {
     len: usize,
     came: usize,
 }
 
 // One read, behind the bytes of those before it.
-fn read_more(rt: &HostRuntime, file: &mut [u8], len: usize) -> io::Result<Input>
-    requires { len ≤ length file.old }
-    ensures { MatchResult result (λ input. Comes file.old len input.came file.new input.len) (λ _. Comes file.old len 0 file.new len) }
+fn read_more(rt: &HostRuntime, file: &mut [u8], input: &mut Input) -> io::Result<()>
+    requires { input.old.len ≤ length file.old }
+    ensures { Comes file.old input.old.len input.new.came file.new input.new.len }
+    ensures failed { IfErr result (λ _. input.new.came ≡ 0) }
 {
-    let came = rt.stdin().read(&mut file[len..])?;
-    Ok(Input {
-        len: len + came,
-        came,
-    })
+    input.came = 0;
+    input.came = rt.stdin().read(&mut file[input.len..])?;
+    input.len += input.came;
+    Ok(())
 }
 
 // To the end of the input, or until `file` is full: no range and no iterator says when. A pipe hands over a part at a time, and each
-// part goes into what is left of the file, lent anew.
-fn read_all(rt: &HostRuntime, file: &mut [u8]) -> io::Result<Input>
+// part goes into what is left of the file, lent anew. What came is told also where a read failed.
+fn read_all(rt: &HostRuntime, file: &mut [u8], input: &mut Input) -> io::Result<()>
     requires { longest_file < length file.old }
-    ensures { IfOk result (λ input. Stops file.new input.len input.came) }
+    ensures { Stops file.new input.new.len input.new.came }
 {
-    let mut input = read_more(rt, file, 0)?;
+    *input = Input::default();
+    read_more(rt, file, input)?;
     while input.came > 0 && input.len < file.len() {
-        input = read_more(rt, file, input.len)?;
+        read_more(rt, file, input)?;
     }
-    Ok(input)
+    Ok(())
 }
 
 // ---- Standard output
@@ -91,8 +93,9 @@ fn print_all(rt: &HostRuntime, file: &[u8], len: &mut usize) -> io::Result<()>
 #[tactic(auto, unfolding(model::specs::Listing::longest_file))]
 fn main(rt: HostRuntime) {
     let mut file = [0u8; FILE];
-    match read_all(&rt, &mut file) {
-        Ok(input) => {
+    let mut input = Input::default();
+    match read_all(&rt, &mut file, &mut input) {
+        Ok(()) => {
             let mut len = 0;
             if let Err(e) = print_all(&rt, &file[..input.len], &mut len) {
                 say(&rt, "standard output", &e);

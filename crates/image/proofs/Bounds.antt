@@ -1,8 +1,9 @@
 -- Sizes within bounds, and what a test says.
+use Rattle.model.specs.Calls.{scratch_length}
 use mathlib.Core.Path.{◌≡◌, sym, ◌∙◌}
 use mathlib.Core.Bool.{Bool, true, false}
 use mathlib.Core.List.{List}
-use Prim.Native.Nat.{ℕ}
+use Prim.Native.Nat.{ℕ, ◌*◌, ◌+◌}
 use native.Mathlib.Omega.{arith}
 use borrow.Author.Tests.{leb-true}
 use Rattle.model.specs.Heap.{Sizes, in_bounds}
@@ -38,9 +39,13 @@ pub sized_bounds : {z : Sizes} {w : List ℕ} → z ≡ sizes_of w → Sized w �
 unfolding sizes_of
 sized_bounds e s = rw e s.bounds
 
-image-end : (z : Sizes) → image_end z.n z.s z.c ≡ image_length z
+pub image-end : (z : Sizes) → image_end z.n z.s z.c ≡ image_length z
 unfolding image_length
 image-end z = omega arith
+
+pub scratch-end : (z : Sizes) (r : ℕ) → image_end z.n z.s z.c + 4 * (r + 2 * z.n) + 3 * (r + z.s + z.c) ≡ scratch_length z r
+unfolding scratch_length image_length
+scratch-end z r = omega arith
 
 pub is-sized : (w : List ℕ) → sized w ≡ true → Sized w
 unfolding sizes_of

@@ -104,6 +104,9 @@ module _ {w : List ℕ} {h : Heap} (i : Image w h) where
     pub c-is : l.c ≡ h.size.c
     c-is = p.c ∙ ap (λ (z : Sizes). z.c) sizes-is
 
+    pub slots-inside : l.slots ≤ length w
+    slots-inside = omega (arith, p.young, p.old, p.end)
+
     lens-length : length (map length ss) ≡ l.s
     lens-length = length-map ss length ∙ i.fit.old.slots ∙ sym s-is
 

@@ -10,16 +10,14 @@ use mir.Val.{of_z}
 use Rattle.model.specs.Records.{Cell, plain, ref}
 use Rattle.model.specs.Listing.{decimal, signed, figure_text, cell_text, new_word, alloc_word, set_word, load_word, store_word, report_word, figure_word, no_word, line_text}
 use Rattle.std.specs.Prelude.{Result, Ok, Err}
-use Rattle.question.specs.Question.{number}
-use Rattle.question.specs.declared.Question.{Question}
 use Rattle.value.specs.Value.{value_cell}
 use Rattle.figure.proofs.Digits.{decimal-length}
 use Rattle.figure.proofs.Writes.{sign-length}
 use Rattle.report.specs.Numbers.{numbers}
 use Rattle.command.specs.declared.answers.Answer.{Answer}
 use Rattle.command.specs.declared.answers.Answer.TheVariants.{New, Alloc, Set, Load, Store, Report, Figure as FigureOf}
-use Rattle.command.specs.Answers.{answer_line}
 use Rattle.lines.specs.Longest.{longest_spaced, longest_text}
+use Rattle.lines.specs.Told.{told}
 use Rattle.lines.proofs.Loops.{spaced-length}
 
 pub signed-length : (w : ℕ) → length (signed w) ≤ longest_spaced
@@ -35,7 +33,7 @@ unfolding cell_text
 cell-length (plain k v) = spaced-length (k ∷ 0 ∷ v ∷ 0 ∷ [])
 cell-length (ref p) = spaced-length (5 ∷ p.heap ∷ p.base ∷ p.off ∷ [])
 
-pub answer-length : (a : Result Answer Question) → length (line_text (answer_line a)) ≤ longest_text
+pub answer-length : (a : Result Answer ℕ) → length (line_text (told a)) ≤ longest_text
 unfolding line_text figure_text numbers new_word alloc_word set_word load_word store_word report_word figure_word no_word
 answer-length (Ok New) = omega arith
 answer-length (Ok (Alloc a)) =
@@ -48,4 +46,4 @@ answer-length (Ok (Load v)) = omega (arith, cell-length (value_cell v))
 answer-length (Ok Store) = omega arith
 answer-length (Ok (Report s)) = omega (arith, spaced-length (numbers s))
 answer-length (Ok (FigureOf f)) = simp length-append (omega (arith, sign-length f.negative 0x2D, decimal-length (f.thousandths / 1000)))
-answer-length (Err q) = omega (arith, spaced-length (number q ∷ []))
+answer-length (Err q) = omega (arith, spaced-length (q ∷ []))

@@ -9,12 +9,12 @@ ghost use Rattle.figure.specs.Written.{Wrote, Room, Writes};
 ghost use Rattle.command.specs.declared.answers.Answer.TheVariants.{Alloc, Load, Report, Figure as FigureOf};
 ghost use Rattle.command.specs.Answers.{answer_line};
 ghost use Rattle.lines.specs.Longest.{longest_spaced, longest_text, longest_line};
+ghost use Rattle.lines.specs.Told.{told};
 
 use collector::Allocation;
 use command::Answer;
 use figure::Figure;
 use figure::text::Text;
-use question::Question;
 use report::Statistics;
 use value::{Value, Words};
 
@@ -111,9 +111,9 @@ fn refusal_text(q: u64, t: &mut Text<'_>)
 }
 
 #[tactic(auto, unfolding(model::specs::Listing::line_text, model::specs::Listing::new_word, model::specs::Listing::set_word, model::specs::Listing::store_word))]
-fn text(answer: Result<Answer, Question>, t: &mut Text<'_>)
+fn text(answer: Result<Answer, u64>, t: &mut Text<'_>)
     requires { Room longest_text t.old }
-    ensures { Writes (line_text (answer_line answer)) t.old t.new }
+    ensures { Writes (line_text (told answer)) t.old t.new }
 {
     match answer {
         Ok(Answer::New) => word(b"new", t),
@@ -123,14 +123,15 @@ fn text(answer: Result<Answer, Question>, t: &mut Text<'_>)
         Ok(Answer::Store) => word(b"store", t),
         Ok(Answer::Report(s)) => report_text(s, t),
         Ok(Answer::Figure(f)) => figure_text(f, t),
-        Err(q) => refusal_text(q.number(), t),
+        Err(q) => refusal_text(q, t),
     }
 }
 
-// Writes it at a place of `out`, leaves the rest as it was, and returns the place behind.
-pub fn line(number: u64, answer: Result<Answer, Question>, out: &mut [u8], at: usize) -> usize
+// Writes it at a place of `out`, leaves the rest as it was, and returns the place behind. Any number may be told of a refusal: a line is
+// text, and knows no question.
+pub fn line(number: u64, answer: Result<Answer, u64>, out: &mut [u8], at: usize) -> usize
     requires { at + longest_line ≤ length out.old }
-    ensures { Wrote (line number (answer_line answer)) out.old at out.new result }
+    ensures { Wrote (line number (told answer)) out.old at out.new result }
 {
     let mut t = Text { out, at };
     t.decimal(number);

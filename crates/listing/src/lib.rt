@@ -5,7 +5,9 @@ ghost use Rattle.std.specs.Prelude.{◌≡◌, List, ℕ, ◌+◌, ◌<◌, ◌�
 ghost use Rattle.model.specs.Listing.{listing};
 ghost use Rattle.reader.specs.Answer.{next_answer};
 ghost use Rattle.command.specs.State.{Roomy};
+ghost use Rattle.command.specs.Answers.{answer_line};
 ghost use Rattle.lines.specs.Longest.{longest_line};
+ghost use Rattle.lines.specs.Told.{told};
 ghost use Rattle.listing.specs.Left.{stands_at, left_of, Going, Answers, Advances, Fills};
 
 use command::{Answer, State};
@@ -81,6 +83,16 @@ fn step(
     }
 }
 
+// The answer as its line tells it: of a question the number. Not by `map_err`: nothing is known of what its function made.
+fn told(answer: Result<Answer, Question>) -> Result<Answer, u64>
+    ensures { told result ≡ answer_line answer }
+{
+    match answer {
+        Ok(a) => Ok(a),
+        Err(q) => Err(q.number()),
+    }
+}
+
 // One command and its line; the place behind that.
 fn advance(
     file: &[u8],
@@ -98,7 +110,7 @@ fn advance(
 {
     let number = run.number;
     let answer = step(file, buffer, scratch, run);
-    lines::line(number, answer, out, used)
+    lines::line(number, told(answer), out, used)
 }
 
 // As many lines as `out` surely has room for; the place behind them. It ends there, or at the file's end: no range says so, and an

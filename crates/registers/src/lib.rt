@@ -14,7 +14,7 @@ use value::{Value, Words};
 // One of the sixteen: 12 asks that of a command's byte.
 #[derive(Clone, Copy)]
 pub struct Register {
-    number: u8,
+    pub number: u8,
     ghost below: { number < 16 },
 }
 

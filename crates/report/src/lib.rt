@@ -171,8 +171,8 @@ pub fn report_into_formed(image: &mut [u64], lent: &mut Statistics) -> Result<()
 pub fn report_into(image: &mut [u64], lent: &mut Statistics) -> Result<(), Question>
     ensures { Fills (report_call image.old) lent.old result lent.new image.new }
 {
-    image::check(image)?;
-    report_into_formed(image, lent)
+    *lent = report(image)?;
+    Ok(())
 }
 
 // `report_formed` through a record that is lent: what the program runs. The two are two as all doors are: for C an owner's image is asked nothing.

@@ -9,7 +9,7 @@ use mir.Val.{Fits}
 use mir.Syntax.{w64}
 use lib.Dec.{ltb}
 use lib.ListN.{length, get_or, take, drop, replicate, length-map, length-drop, get_or-map, get_or-eq_default}
-use lib.Seq.{drop-cons, drop-length, length-take-le, drop_at}
+use lib.Seq.{drop-cons, drop-length, length-take-le, drop_at, take-length}
 use borrow.Author.Tests.{lt-ltb, le-ltb}
 use Rattle.std.specs.Prelude.{Option, Some, None}
 use Rattle.model.specs.Lists.{cons_if, flat, places, sum}
@@ -29,6 +29,9 @@ use Rattle.slots.proofs.Flat.{use-split, sum-take, slot-cell, valid-at, kind_at,
 
 pub front_fits : (l : List ℕ) (b : ℕ) → sum l < 2 ^ 64 → sum (take b l) < 2 ^ 64
 front_fits l b h = omega (arith, sum-front l b)
+
+pub sum-all : (l : List ℕ) (r : ℕ) → r ≡ sum (take (length l) l) → r ≡ sum l
+sum-all l r e = e ∙ ap sum (take-length l)
 
 -- `held`
 

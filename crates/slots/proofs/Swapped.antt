@@ -51,6 +51,9 @@ module _ {s at : ℕ} {w : List ℕ} {ss : List (List Cell)} (v : Elder s at w s
   unfolding padded
   part-is = rw v.packed.cells (take_at (cell_words (flat ss)) _ (at + 3 * used - at) part_length)
 
+  pub part_count : length part ≡ used * 3
+  part_count = rw part-is (omega (arith, part_length))
+
   pub part-whole : whole_cells part ≡ true
   part-whole = rw part-is (whole_words (flat ss) v.packed.valid)
 

@@ -1,4 +1,7 @@
 -- The entries of a list in its words.
+use mathlib.Core.Bool.{false, and-true, and-false}
+use lib.Dec.{eqb}
+use borrow.Author.Tests.{eq-eqb, ne_eqb}
 use mathlib.Core.Path.{◌≡◌, refl, ap, ◌∙◌}
 use mathlib.Core.List.{List, [], ◌∷◌, ◌++◌}
 use mathlib.Core.Option.{some}
@@ -6,10 +9,10 @@ use Prim.Native.Nat.{ℕ, zero, suc, ◌+◌, ◌*◌, ◌-◌, ◌≤◌, ◌<�
 use native.Mathlib.Numerals.{add-one}
 use native.Mathlib.Nat.{zero-add, add-zero, suc-add, add-suc, le_of_suc-le-suc, not-suc-le-zero}
 use native.Mathlib.Omega.{arith}
-use lib.ListN.{length, get_elem?, set, length-set}
+use lib.ListN.{length, get_elem?, set, length-set, get_or}
 use lib.Seq.{get_or-set_same, get_or-set_other}
-use Rattle.model.specs.Records.{Ptr}
-use Rattle.trace.specs.Words.{tab, ptr_at, members, stored}
+use Rattle.model.specs.Records.{Ptr, same_ptr}
+use Rattle.trace.specs.Words.{tab, ptr_at, members, stored, pointer}
 
 module _ {A : Type 0} (f : ℕ → A) where
   pub length-tab : (i n : ℕ) → length (tab f i n) ≡ n
@@ -49,6 +52,20 @@ length-members n w = length-tab (ptr_at w) 0 n
 pub member-at : (n : ℕ) (w : List ℕ) (p : ℕ) → p < n → get_elem? (members n w) p ≡ some (ptr_at w p)
 unfolding members
 member-at n w p h = tab-elem (ptr_at w) 0 n p h ∙ ap (λ (k : ℕ). some (ptr_at w k)) (zero-add p)
+
+-- an entry's test, word by word
+module _ (w : List ℕ) (i h b o : ℕ) where
+  pub base-differs : (b ≡ get_or w (3 * i + 1) 0 → ⊥) → false ≡ same_ptr (pointer h b o) (ptr_at w i)
+  unfolding same_ptr ptr_at
+  base-differs p = rw (ne_eqb b (get_or w (3 * i + 1) 0) p, and-false)
+
+  pub offset-differs : (o ≡ get_or w (3 * i + 2) 0 → ⊥) → false ≡ same_ptr (pointer h b o) (ptr_at w i)
+  unfolding same_ptr ptr_at
+  offset-differs p = rw (ne_eqb o (get_or w (3 * i + 2) 0) p, and-false)
+
+  pub heap-decides : b ≡ get_or w (3 * i + 1) 0 → o ≡ get_or w (3 * i + 2) 0 → eqb h (get_or w (3 * i) 0) ≡ same_ptr (pointer h b o) (ptr_at w i)
+  unfolding same_ptr ptr_at
+  heap-decides p q = rw (eq-eqb b (get_or w (3 * i + 1) 0) p, eq-eqb o (get_or w (3 * i + 2) 0) q) (simp and-true)
 
 -- one more entry is stored
 

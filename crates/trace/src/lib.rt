@@ -145,6 +145,45 @@ impl Members<'_> {
             self.enter_root(*cell);
         }
     }
+
+    // Enters (own, base, 0), if there is an allocation at the base, of length len, and a mask matches.
+    #[tactic(auto, using(crate::proofs::Entering::pieces))]
+    fn enter_base(&mut self, own: u64, base: u64, len: u64, masks: &[u64])
+        requires { Room self.old (matched own masks.now (places base (len ∷ []))) }
+        ensures { Entered self.old self.new (matched own masks.now (places base (len ∷ []))) }
+    {
+        if len == 0 || !matches(masks, base) {
+            return;
+        }
+        self.enter(Member::start(own, base));
+    }
+
+    // Enters each allocation that a mask matches. Without masks there is none, and the lengths are not gone through.
+    fn enter_matched(&mut self, own: u64, lens: &[u64], masks: &[u64])
+        requires { Room self.old (matched own masks.now (places 0 lens.now)) }
+        ensures { Entered self.old self.new (matched own masks.now (places 0 lens.now)) }
+    {
+        if masks.is_empty() {
+            return;
+        }
+        for (b, len) in lens.iter().enumerate() {
+            self.enter_base(own, b as u64, *len, masks);
+        }
+    }
+}
+
+// The members that a collection of the heap own begins with: all root pointers, then the allocations that a mask matches.
+pub fn start(roots: &[u64], lens: &[u64], own: u64, masks: &[u64], list: &mut [u64]) -> usize
+    requires { 3 * (length roots.now / 3 + length lens.now) ≤ length list.old }
+    ensures { members result list.new ≡ enter same_ptr [] (pointers (cells_in roots.now) ++ matched own masks.now (places 0 lens.now)) }
+{
+    let mut members = Members {
+        words: list,
+        count: 0,
+    };
+    members.enter_roots(roots);
+    members.enter_matched(own, lens, masks);
+    members.count
 }
 
 // The generation that is traced: its heap's number, 0 the nursery and 1 the elder, its lengths and its cells. The number is a word, as
@@ -159,31 +198,6 @@ pub struct Generation<'a> {
 }
 
 impl Generation<'_> {
-    // Enters (own, base, 0), if there is an allocation at the base, of length len, and a mask matches.
-    #[tactic(auto, using(crate::proofs::Entering::pieces))]
-    fn enter_base(self, base: u64, len: u64, masks: &[u64], members: &mut Members<'_>)
-        requires { Room members.old (matched self.own masks.now (places base (len ∷ []))) }
-        ensures { Entered members.old members.new (matched self.entry.own masks.now (places base (len ∷ []))) }
-    {
-        if len == 0 || !matches(masks, base) {
-            return;
-        }
-        members.enter(Member::start(self.own, base));
-    }
-
-    // Enters each allocation that a mask matches. Without masks there is none, and the lengths are not gone through.
-    fn enter_matched(self, masks: &[u64], members: &mut Members<'_>)
-        requires { Room members.old (matched self.own masks.now (places 0 self.lens.now)) }
-        ensures { Entered members.old members.new (matched self.entry.own masks.now (places 0 self.entry.lens.now)) }
-    {
-        if masks.is_empty() {
-            return;
-        }
-        for (b, len) in self.lens.iter().enumerate() {
-            self.enter_base(b as u64, *len, masks, members);
-        }
-    }
-
     // Enters a cell, if it is a pointer to the heap own. Not a root that is filtered: to one heap a single comparison tells a pointer.
     #[tactic(auto, using(crate::proofs::Entering::pieces))]
     fn enter_own(self, cell: [u64; 3], members: &mut Members<'_>)
@@ -257,17 +271,13 @@ impl Generation<'_> {
         }
     }
 
-    // The members of a collection of the heap own: all root pointers, then the allocations that a mask matches, then what these lead to.
+    // The members of a collection of the heap own: those that it starts with, then what these lead to.
     pub fn list_members(self, roots: &[u64], masks: &[u64], list: &mut [u64]) -> usize
         requires { 3 * (length roots.now / 3 + most_members self.own self.lens.now) ≤ length list.old }
         ensures { Traced self.entry.own self.entry.lens.now self.entry.cells.now (cells_in roots.now) masks.now (members result list.new) }
     {
-        let mut members = Members {
-            words: list,
-            count: 0,
-        };
-        members.enter_roots(roots);
-        self.enter_matched(masks, &mut members);
+        let count = start(roots, self.lens, self.own, masks, list);
+        let mut members = Members { words: list, count };
         self.walk(&mut members);
         members.count
     }

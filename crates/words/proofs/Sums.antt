@@ -9,6 +9,12 @@ use lib.Seq.{take-nil}
 use Rattle.std.specs.Prelude as std
 use Rattle.model.specs.Lists.{sum}
 
+pub sum-next : (ls : List ℕ) (i : ℕ) → sum (take (suc i) ls) ≡ sum (take i ls) + get_or ls i 0
+unfolding sum
+sum-next [] i = rw (take-nil i)
+sum-next (x ∷ ls) zero = omega arith
+sum-next (x ∷ ls) (suc i) = omega (arith, sum-next ls i)
+
 pub sum-within : (ls : List ℕ) (i : ℕ) → sum (take i ls) + get_or ls i 0 ≤ sum ls
 unfolding sum
 sum-within [] i = rw (take-nil i) (omega arith)

@@ -13,12 +13,40 @@ ghost use Rattle.words.specs.Source.{filling, count_of};
 
 use cells::Cells;
 
+// Loops, since of the C library the heap for C asks no more than memcpy and memset: `copy_within` and `copy_from_slice` call memmove,
+// and so does a loop over places a known number of words apart.
+
+// Moves the n words from src on left to dst, the first one first.
+#[inline(never)]
+fn move_left(w: &mut [u64], dst: usize, src: usize, n: usize)
+    requires { (dst ≤ src) × (src + n ≤ length w.old) }
+    ensures { w.new ≡ paste w.old dst (drop src w.old) n }
+{
+    for i in 0..n {
+        w[dst + i] = w[src + i];
+    }
+}
+
+// Moves the n words from src on right to dst, the last one first.
+fn move_right(w: &mut [u64], dst: usize, src: usize, n: usize)
+    requires { (src ≤ dst) × (dst + n ≤ length w.old) }
+    ensures { w.new ≡ paste w.old dst (drop src w.old) n }
+{
+    for i in (0..n).rev() {
+        w[dst + i] = w[src + i];
+    }
+}
+
 // Moves the n words from src on to dst; the two places may overlap.
 pub fn move_words(w: &mut [u64], dst: usize, src: usize, n: usize)
     requires { (dst + n ≤ length w.old) × (src + n ≤ length w.old) }
     ensures { w.new ≡ paste w.old dst (drop src w.old) n }
 {
-    w.copy_within(src..src + n, dst);
+    if dst <= src {
+        move_left(w, dst, src, n);
+    } else {
+        move_right(w, dst, src, n);
+    }
 }
 
 // Copies src into w from at on.
@@ -26,7 +54,9 @@ pub fn copy_words(w: &mut [u64], at: usize, src: &[u64])
     requires { at + length src.now ≤ length w.old }
     ensures { w.new ≡ paste w.old at src.now (length src.now) }
 {
-    w[at..at + src.len()].copy_from_slice(src);
+    for i in 0..src.len() {
+        w[at + i] = src[i];
+    }
 }
 
 // Makes the n words from at on 0.

@@ -1,6 +1,6 @@
 use Rattle.std.proofs.Common.{◌≡◌, rules, arith, ℕ}
 use Rattle.question.proofs.Passing.{refused_as}
-use Rattle.cycle.proofs.Pushing.{Begun, pushing-none, image-before, survivor-inside, survivor_base, ready-move, pushing-refused, note-asks, pushing-more, ready-again, pushing-done}
+use Rattle.cycle.proofs.Pushing.{Begun, pushing-none, survivor-inside, ready-move, pushing-refused, note-asks, pushing-more, ready-again, pushing-done}
 use Rattle.cycle.proofs.Cycling.{turned-push, turned-give, not-to-collect, only-once, push-last, ready-swept, push-swept, swept-refused, nursery-refused, two-left, begun, at_first, first-falls}
 use Rattle.cycle.proofs.+alloc_or_collect_collect_and_push_allocation.Goals as goal
 use Rattle.cycle.proofs.+alloc_or_collect_collect_and_push_allocation.Goals.{collect_and_push_allocation-In_ok-c}
@@ -59,49 +59,39 @@ collect_and_push_allocation-loop-i-init t c =
     let e : c.default-tally.result ≡ record { collections = 0; visits = 0 } = search rules in
     rw e (pushing-none (collected t (goal.at.collect_and_push_allocation-loop-i-init t c).In_ok-c))
 
-pub collect_and_push_allocation-slice_bounds-at-count : goal.collect_and_push_allocation-slice_bounds-at-count
-collect_and_push_allocation-slice_bounds-at-count t c =
-    let b = collected t (goal.at.collect_and_push_allocation-slice_bounds-at-count t c).In_ok-c in
-    image-before b c.loop-i.invariant
-
-pub collect_and_push_allocation-slice_bounds-at-start : goal.collect_and_push_allocation-slice_bounds-at-start
-collect_and_push_allocation-slice_bounds-at-start t c =
-    let b = collected t (goal.at.collect_and_push_allocation-slice_bounds-at-start t c).In_ok-c in
-    image-before b c.loop-i.invariant
-
-pub collect_and_push_allocation-at-m-requires : goal.collect_and_push_allocation-at-m-requires
-collect_and_push_allocation-at-m-requires t c =
-    let b = collected t (goal.at.collect_and_push_allocation-at-m-requires t c).In_ok-c in
+pub collect_and_push_allocation-survivor-base-requires : goal.collect_and_push_allocation-survivor-base-requires
+collect_and_push_allocation-survivor-base-requires t c =
+    let b = collected t (goal.at.collect_and_push_allocation-survivor-base-requires t c).In_ok-c in
     survivor-inside b c.loop-i.invariant c.loop-i-test.true
 
 pub collect_and_push_allocation-alloc_or_collect-requires-in-loop-i : goal.collect_and_push_allocation-alloc_or_collect-requires-in-loop-i
 collect_and_push_allocation-alloc_or_collect-requires-in-loop-i t c =
     let b = collected t (goal.at.collect_and_push_allocation-alloc_or_collect-requires-in-loop-i t c).In_ok-c in
-    (omega (arith, first-falls _ _ _ c.if-collected.false c.decreases, two-left c.requires.ready c.if-left-eq1.false), rw (survivor_base _ _ _ (image-before b c.loop-i.invariant) c.at-m.ensures) (ready-move b c.loop-i.invariant c.loop-i-test.true))
+    (omega (arith, first-falls _ _ _ c.if-collected.false c.decreases, two-left c.requires.ready c.if-left-eq1.false), rw c.survivor-base.ensures (ready-move b c.loop-i.invariant c.loop-i-test.true))
 
 pub collect_and_push_allocation-returns-in_err-g-2 : goal.collect_and_push_allocation-returns-in_err-g-2
 collect_and_push_allocation-returns-in_err-g-2 t c =
     let b = collected t (goal.at.collect_and_push_allocation-returns-in_err-g-2 t c).In_ok-c in
     rw (refused_as c.from_residual-in_err-g-2.result _ c.from_residual-in_err-g-2.ensures.1)
     (rw c.in_err-g-2.was at (at_first c.requires.ready c.if-left-eq1.false c.if-collected.false _
-    (pushing-refused b c.loop-i.invariant c.loop-i-test.true (rw (survivor_base _ _ _ (image-before b c.loop-i.invariant) c.at-m.ensures) at c.alloc_or_collect-in-loop-i.ensures) (search rules) _ c.in_err-g-2.was)))
+    (pushing-refused b c.loop-i.invariant c.loop-i-test.true (rw c.survivor-base.ensures at c.alloc_or_collect-in-loop-i.ensures) (search rules) _ c.in_err-g-2.was)))
 
 pub collect_and_push_allocation-invariant_of-note : goal.collect_and_push_allocation-invariant_of-note
 collect_and_push_allocation-invariant_of-note t c =
     let b = collected t (goal.at.collect_and_push_allocation-invariant_of-note t c).In_ok-c in
-    let n = note-asks b c.loop-i.invariant c.loop-i-test.true (rw (survivor_base _ _ _ (image-before b c.loop-i.invariant) c.at-m.ensures) at c.alloc_or_collect-in-loop-i.ensures) (search rules) _ c.in_ok-g-2.was in
+    let n = note-asks b c.loop-i.invariant c.loop-i-test.true (rw c.survivor-base.ensures at c.alloc_or_collect-in-loop-i.ensures) (search rules) _ c.in_ok-g-2.was in
     record { formed = n.0 }
 
 pub collect_and_push_allocation-note-tally-requires : goal.collect_and_push_allocation-note-tally-requires
 collect_and_push_allocation-note-tally-requires t c =
     let b = collected t (goal.at.collect_and_push_allocation-note-tally-requires t c).In_ok-c in
-    let n = note-asks b c.loop-i.invariant c.loop-i-test.true (rw (survivor_base _ _ _ (image-before b c.loop-i.invariant) c.at-m.ensures) at c.alloc_or_collect-in-loop-i.ensures) (search rules) _ c.in_ok-g-2.was in
+    let n = note-asks b c.loop-i.invariant c.loop-i-test.true (rw c.survivor-base.ensures at c.alloc_or_collect-in-loop-i.ensures) (search rules) _ c.in_ok-g-2.was in
     record { roots_in_bounds = n.1; i_in_bounds = n.2; sums_bound = (n.3, n.4) }
 
 pub collect_and_push_allocation-loop-i-preserved : goal.collect_and_push_allocation-loop-i-preserved
 collect_and_push_allocation-loop-i-preserved t c =
     let b = collected t (goal.at.collect_and_push_allocation-loop-i-preserved t c).In_ok-c in
-    pushing-more b c.loop-i.invariant c.loop-i-test.true (rw (survivor_base _ _ _ (image-before b c.loop-i.invariant) c.at-m.ensures) at c.alloc_or_collect-in-loop-i.ensures) (search rules) _ c.in_ok-g-2.was c.note-tally.ensures.scratch_after _ c.note-tally.ensures.sums
+    pushing-more b c.loop-i.invariant c.loop-i-test.true (rw c.survivor-base.ensures at c.alloc_or_collect-in-loop-i.ensures) (search rules) _ c.in_ok-g-2.was c.note-tally.ensures.scratch_after _ c.note-tally.ensures.sums
 
 pub collect_and_push_allocation-alloc_or_collect-requires-2 : goal.collect_and_push_allocation-alloc_or_collect-requires-2
 collect_and_push_allocation-alloc_or_collect-requires-2 t c =

@@ -5,7 +5,7 @@ use Rattle.model.specs.Lists.{places}
 use Rattle.model.specs.Nursery.{matched}
 use Rattle.trace.specs.Entered.{entries}
 use Rattle.trace.proofs.Entering.{Entering}
-use Rattle.trace.proofs.Generation.enter_matched.Given as goal
+use Rattle.trace.proofs.Members.enter_matched.Given as goal
 
 abbrev pub invariant-loop-b : goal.invariant-loop-b
-invariant-loop-b l = Entering (matched l.self.own l.masks (places l.b (drop l.b l.self.lens.now))) (enter same_ptr (entries l.initial.members) (matched l.self.own l.masks (places 0 l.self.lens.now))) l.initial.members l.members
+invariant-loop-b l = Entering (matched l.own l.masks (places l.b (drop l.b l.lens))) (enter same_ptr (entries l.initial.self) (matched l.own l.masks (places 0 l.lens))) l.initial.self l.self

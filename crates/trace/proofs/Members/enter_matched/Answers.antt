@@ -6,7 +6,7 @@ use Rattle.model.specs.Barrier.{matches}
 use Rattle.model.specs.Nursery.{matched}
 use Rattle.trace.proofs.Places.{base-next, base-end}
 use Rattle.trace.proofs.Entering.{none-entered, enter-room, enter-turn, enter-done}
-use Rattle.trace.proofs.Generation.enter_matched.Goals as goal
+use Rattle.trace.proofs.Members.enter_matched.Goals as goal
 
 none-matched : (own : ℕ) (bs : List ℕ) → matched own [] bs ≡ []
 unfolding matched keep_if matches
@@ -20,7 +20,7 @@ no-words (m ∷ ms) e = absurd (omega (arith, eqb-true (length (m ∷ ms)) 0 (sy
 pub returns-then-is_empty : goal.returns-then-is_empty
 returns-then-is_empty c =
     let none : c.args.masks.now ≡ [] = no-words c.args.masks.now (sym c.if-is_empty.true ∙ c.is_empty.ensures) in
-    none-entered _ _ (rw none (none-matched c.args.self.own (places 0 c.args.self.lens.now)))
+    none-entered _ _ (rw none (none-matched c.args.own (places 0 c.args.lens.now)))
 
 pub enter_base-requires : goal.enter_base-requires
 enter_base-requires c = enter-room c.loop-b.invariant _ _ (base-next _ _ _ _ c.loop-b-test.true)
