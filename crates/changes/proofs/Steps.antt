@@ -1,7 +1,7 @@
 -- A step of the code against the model's, and what follows it.
 use mathlib.Core.Path.{◌≡◌, refl, ap, ◌∙◌}
 use mathlib.Core.Bool.{false, true≢false}
-use Prim.Native.Nat.{ℕ, suc, ◌+◌, ◌-◌, ◌<◌, ◌≤◌}
+use Prim.Native.Nat.{ℕ, zero, suc, ◌+◌, ◌-◌, ◌<◌, ◌≤◌}
 use native.Mathlib.Omega.{arith}
 use Rattle.std.proofs.Common.{Result, Ok, Err, Option, Some, None}
 use Rattle.std.specs.Option.{is_some}
@@ -77,5 +77,15 @@ module _ (k : ℕ) (f : Barrier → Res Barrier) (i : ℕ) (b : Barrier) (z : Re
 
     pub times-refused : (q : Question) → r ≡ Err q → refuse (number q) ≡ z
     times-refused q out = then-refused _ (times (k - (i + 1)) f) r e q out ∙ parted
+
+-- steps that answer alike
+pub times-same : {B : Type 0} (k : ℕ) (f g : B → Res B) → ((b : B) → f b ≡ g b) → (b : B) → times k f b ≡ times k g b
+unfolding times
+times-same zero f g h b = refl
+times-same {B} (suc k) f g h b = ap (λ (r : Res B). r >>= times k f) (h b) ∙ go (times-same k f g h) (g b)
+  where
+    go : ((b : B) → times k f b ≡ times k g b) → (r : Res B) → (r >>= times k f) ≡ (r >>= times k g)
+    go rest (ok d) = rest d
+    go rest (refuse q) = refl
 
 pub ruleset laws = (times_none, times-less)

@@ -4,41 +4,27 @@
 
 ghost use Rattle.std.specs.Prelude.{◌≡◌};
 ghost use Rattle.question.specs.Question.{answer};
-ghost use Rattle.barrier.specs.Counts.{barrier_of};
+ghost use Rattle.value.specs.Value.{value_cell};
+ghost use Rattle.barrier.specs.Counts.{barrier_of, step_of};
 ghost use Rattle.slots.specs.Slots.{move_of};
 ghost use Rattle.changes.specs.Changes.{times, count_change};
 
-use barrier::WriteBarrier;
+use barrier::{Way, WriteBarrier};
 use question::Question;
 use slots::Move;
+use value::Value;
 
-// Where both steps count. Apart from `count_change`: what `?` binds, 1 KB, is zeroed where its function begins.
-fn count_both(own: u8, moved: Move, barrier: WriteBarrier) -> Result<WriteBarrier, Question>
+// One such cell: (heap, base, offset) out, then (1, new, 0) in.
+pub fn count_change(own: u8, moved: Move, barrier: WriteBarrier) -> Result<WriteBarrier, Question>
     ensures { answer barrier_of result ≡ count_change own (move_of moved) (barrier_of barrier) }
 {
     let less = barrier.count_out(own, moved.was())?;
     less.count_in(own, moved.becomes())
 }
 
-// One such cell: (heap, base, offset) out, then (1, new, 0) in. A pointer that moves to the other heap counts in one of the two steps, and
-// the other is not made: it would copy the barrier for nothing.
-pub fn count_change(own: u8, moved: Move, barrier: WriteBarrier) -> Result<WriteBarrier, Question>
-    ensures { answer barrier_of result ≡ count_change own (move_of moved) (barrier_of barrier) }
-{
-    let was = moved.was();
-    let becomes = moved.becomes();
-    if was.crossing(own).is_none() {
-        return barrier.count_in(own, becomes);
-    }
-    if becomes.crossing(own).is_none() {
-        return barrier.count_out(own, was);
-    }
-    count_both(own, moved, barrier)
-}
-
-// All k of them; the first refusal ends it.
+// All k of them, where both steps count.
 #[tactic(auto, using(crate::proofs::Steps::laws))]
-pub fn count_changes(
+fn count_both(
     k: usize,
     own: u8,
     moved: Move,
@@ -46,8 +32,47 @@ pub fn count_changes(
 ) -> Result<WriteBarrier, Question>
     ensures { answer barrier_of result ≡ times k (count_change own (move_of moved)) (barrier_of barrier) }
 {
-    for _ in 0..k {
+    let cells = k;
+    for _ in 0..cells {
         barrier = count_change(own, moved, barrier)?;
     }
     Ok(barrier)
+}
+
+// A value counted k times.
+#[tactic(auto, using(crate::proofs::Steps::laws))]
+fn count_one(
+    k: usize,
+    own: u8,
+    way: Way,
+    v: Value,
+    mut barrier: WriteBarrier,
+) -> Result<WriteBarrier, Question>
+    ensures { answer barrier_of result ≡ times k (step_of way own (value_cell v)) (barrier_of barrier) }
+{
+    for _ in 0..k {
+        barrier = barrier.count(own, way, v)?;
+    }
+    Ok(barrier)
+}
+
+// All k of them; the first refusal ends it. A pointer that moves to the other heap counts in one of the two steps, and the other is not
+// made: it would copy the barrier for nothing.
+pub fn count_changes(
+    k: usize,
+    own: u8,
+    moved: Move,
+    barrier: WriteBarrier,
+) -> Result<WriteBarrier, Question>
+    ensures { answer barrier_of result ≡ times k (count_change own (move_of moved)) (barrier_of barrier) }
+{
+    let was = moved.was();
+    let becomes = moved.becomes();
+    if was.crossing(own).is_none() {
+        return count_one(k, own, Way::In, becomes, barrier);
+    }
+    if becomes.crossing(own).is_none() {
+        return count_one(k, own, Way::Out, was, barrier);
+    }
+    count_both(k, own, moved, barrier)
 }

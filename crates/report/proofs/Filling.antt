@@ -33,3 +33,6 @@ module _ {o : Outcome} {v : List ℕ} where
   -- the same of a call
   pub fills-as : {p : Outcome} {r : Result (Unit {0}) Question} {s old : Statistics} → p ≡ o → Fills o old r s v → Fills p old r s v
   fills-as e f = record { outcome = e ∙ f.outcome; kept = f.kept }
+
+-- what the functions that lend a record need
+pub ruleset lending = (filled, not-filled, taken, refused)

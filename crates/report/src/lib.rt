@@ -160,6 +160,7 @@ pub fn report(image: &mut [u64]) -> Result<Statistics, Question>
 // ---- Into a record that the caller lends
 
 // Document 01 names the form: the report goes into a record that the caller lends. A refusal leaves the record as it was.
+#[tactic(auto, using(crate::proofs::Filling::lending))]
 pub fn report_into_formed(image: &mut [u64], lent: &mut Statistics) -> Result<(), Question>
     requires { Image image.old (decode image.old) }
     ensures { Fills (reported image.old (report (decode image.old))) lent.old result lent.new image.new }
@@ -168,6 +169,7 @@ pub fn report_into_formed(image: &mut [u64], lent: &mut Statistics) -> Result<()
     Ok(())
 }
 
+#[tactic(auto, using(crate::proofs::Filling::lending))]
 pub fn report_into(image: &mut [u64], lent: &mut Statistics) -> Result<(), Question>
     ensures { Fills (report_call image.old) lent.old result lent.new image.new }
 {
@@ -176,6 +178,7 @@ pub fn report_into(image: &mut [u64], lent: &mut Statistics) -> Result<(), Quest
 }
 
 // `report_formed` through a record that is lent: what the program runs. The two are two as all doors are: for C an owner's image is asked nothing.
+#[tactic(auto, using(crate::proofs::Filling::lending))]
 pub fn report_lent_formed(image: &mut [u64]) -> Result<Statistics, Question>
     requires { Image image.old (decode image.old) }
     ensures { reported image.old (report (decode image.old)) ≡ report_outcome result image.new }
@@ -186,6 +189,7 @@ pub fn report_lent_formed(image: &mut [u64]) -> Result<Statistics, Question>
 }
 
 // `report` through a record that is lent: what runs for C.
+#[tactic(auto, using(crate::proofs::Filling::lending))]
 pub fn report_lent(image: &mut [u64]) -> Result<Statistics, Question>
     ensures { report_call image.old ≡ report_outcome result image.new }
 {

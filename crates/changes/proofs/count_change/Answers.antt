@@ -1,14 +1,12 @@
-use mathlib.Core.Path.{◌≡◌, ap, ◌∙◌}
-use mathlib.Core.Bool.{Bool, true, false, not}
-use Rattle.changes.proofs.Steps.{alone-in, alone-out}
+use mathlib.Core.Path.{◌∙◌}
+use Rattle.question.proofs.Passing.{passed_on}
+use Rattle.changes.proofs.Steps.{change-refused, change-in}
 use Rattle.changes.proofs.count_change.Goals as goal
 
--- what `is_none` says where it answers true
-unsaid : {s t : Bool} → s ≡ not t → t ≡ true → s ≡ false
-unsaid e h = e ∙ ap not h
+pub returns-in_err-less : goal.returns-in_err-less
+returns-in_err-less c =
+    let e = change-refused _ _ _ c.was.ensures c.count_out.result c.count_out.ensures _ c.in_err-less.was in
+    passed_on _ c.from_residual.result _ c.from_residual.ensures.1 ∙ e
 
-pub returns-then-is_none : goal.returns-then-is_none
-returns-then-is_none c = c.count_in.ensures ∙ alone-in _ _ _ _ _ c.was-was.ensures c.becomes-becomes.ensures _ c.crossing.ensures (unsaid c.is_none.ensures c.if-is_none.true)
-
-pub returns-then-is_none-2 : goal.returns-then-is_none-2
-returns-then-is_none-2 c = c.count_out.ensures ∙ alone-out _ _ _ _ _ c.was-was.ensures c.becomes-becomes.ensures _ c.crossing-2.ensures (unsaid c.is_none-2.ensures c.if-is_none-2.true)
+pub returns : goal.returns
+returns c = c.count_in.ensures ∙ change-in _ _ _ c.was.ensures c.count_out.result c.count_out.ensures _ c.in_ok-less.was c.becomes.ensures

@@ -3,7 +3,7 @@ use Prim.Native.Nat.{◌-◌}
 use Rattle.barrier.specs.Counts.{barrier_of}
 use Rattle.slots.specs.Slots.{move_of}
 use Rattle.changes.specs.Changes.{times, count_change}
-use Rattle.changes.proofs.count_changes.Given as goal
+use Rattle.changes.proofs.count_both.Given as goal
 
 -- as many as are left lead to what all come to
 abbrev pub invariant-loop : goal.invariant-loop

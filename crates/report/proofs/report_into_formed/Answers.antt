@@ -1,8 +1,0 @@
-use Rattle.report.proofs.Filling.{filled, not-filled}
-use Rattle.report.proofs.report_into_formed.Goals as goal
-
-pub returns : goal.returns
-returns c = filled c.report_formed.ensures c.in_ok-lent.was
-
-pub returns-in_err-lent : goal.returns-in_err-lent
-returns-in_err-lent c = not-filled c.report_formed.ensures c.in_err-lent.was c.from_residual.ensures.1
