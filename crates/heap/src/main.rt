@@ -37,7 +37,7 @@ struct Input {
 // One read, behind the bytes of those before it.
 fn read_more(rt: &HostRuntime, file: &mut [u8], input: &mut Input) -> io::Result<()>
     requires { input.old.len ≤ length file.old }
-    ensures { Comes file.old input.old.len input.new.came file.new input.new.len }
+    ensures comes { Comes file.old input.old.len input.new.came file.new input.new.len }
     ensures failed { IfErr result (λ _. input.new.came ≡ 0) }
 {
     input.came = 0;
