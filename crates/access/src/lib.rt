@@ -58,7 +58,8 @@ fn read_old(image: Formed<'_>, p: Pointer) -> Result<Value, Question>
     Ok(cell_value(cell))
 }
 
-// There is no other heap.
+// There is no other heap. Inlined, so that the heap for C does not put a value together to take it apart again.
+#[inline(always)]
 pub fn read_formed(image: Formed<'_>, p: Pointer) -> Result<Value, Question>
     ensures { Loads (read (decode image.entry.words.now) (pointer_of p)) result }
 {

@@ -1,5 +1,5 @@
 -- Cells counted one after the other: the loop's turns.
-use mathlib.Core.Path.{◌≡◌, refl, sym, ap, ◌∙◌}
+use mathlib.Core.Path.{◌≡◌, refl, sym, ap}
 use mathlib.Core.Bool.{Bool, true, false, not, ◌&&◌, ◌||◌, true≢false}
 use mathlib.Core.List.{List, [], ◌∷◌, map}
 use Prim.Native.Nat.{ℕ, zero, suc, ◌%◌, ◌/◌, ◌+◌, ◌<◌, ◌≤◌}
@@ -8,7 +8,6 @@ use native.Mathlib.Omega.{arith}
 use lib.Dec.{eqb}
 use lib.ListN.{length, get_or, drop, drop_of_length-le}
 use lib.Seq.{drop-cons}
-use Rattle.std.proofs.Common.{Result, Ok, Err}
 use Rattle.std.specs.Simd.{first_chunks}
 use Rattle.model.specs.Res.{Res, ok, refuse, ◌>>=◌, each}
 use Rattle.model.specs.Records.{Cell, cell_if, cell_of, cells_of, valid_words, whole_cells}
@@ -18,10 +17,7 @@ use Rattle.theorems.proofs.Lists.{and_parts, and_both}
 use Rattle.theorems.proofs.Cells.{in-cons}
 use Rattle.value.specs.declared.Value.{Value}
 use Rattle.value.specs.Value.{value_cell, Spelled}
-use Rattle.question.specs.Question.{number, answer}
-use Rattle.question.specs.declared.Question.{Question}
-use Rattle.barrier.specs.declared.WriteBarrier.{WriteBarrier}
-use Rattle.barrier.specs.Counts.{barrier_of, crossing, any_crossing}
+use Rattle.barrier.specs.Counts.{crossing, any_crossing}
 use Rattle.barrier.proofs.Steps.{Steps}
 
 -- a cell that does not cross changes nothing
@@ -110,43 +106,39 @@ module _ (w : List ℕ) where
       go (suc k) (a ∷ x ∷ []) h = absurd (omega arith)
       go (suc k) (a ∷ x ∷ o ∷ w) h = ap (cell_of a x o ∷◌) (go k w (omega arith))
 
--- the cells from i on, counted in b, are what is left of all of them, counted in b₀
-pub record Left (f : Cell → Barrier → Res Barrier) (ts : List (List ℕ)) (b₀ : Barrier) (i : ℕ) (b : Barrier) : Type 0 where
+-- the cells from i on, counted after m, are what is left of all of them, counted after m₀
+pub record Left (f : Cell → Barrier → Res Barrier) (ts : List (List ℕ)) (m₀ : Res Barrier) (i : ℕ) (m : Res Barrier) : Type 0 where
   pub cells : valid_cells (drop i ts) ≡ true
-  pub rest : each f (map three_cell (drop i ts)) b ≡ each f (map three_cell ts) b₀
+  pub rest : (m >>= each f (map three_cell (drop i ts))) ≡ (m₀ >>= each f (map three_cell ts))
 
-module _ (f : Cell → Barrier → Res Barrier) (ts : List (List ℕ)) (b₀ : Barrier) where
-  pub begin : valid_cells ts ≡ true → Left f ts b₀ 0 b₀
+module _ (f : Cell → Barrier → Res Barrier) (ts : List (List ℕ)) (m₀ : Res Barrier) where
+  pub begin : valid_cells ts ≡ true → Left f ts m₀ 0 m₀
   begin h = record { cells = h; rest = refl }
 
-  module _ {i : ℕ} {b : Barrier} (l : Left f ts b₀ i b) where
-    pub ended : length ts ≤ i → ok b ≡ each f (map three_cell ts) b₀
-    ended h = let none : drop i ts ≡ [] = drop_of_length-le ts {i = i} h in rw none at l.rest
+  module _ {i : ℕ} where
+    pub ended : (m : Res Barrier) → Left f ts m₀ i m → length ts ≤ i → m ≡ (m₀ >>= each f (map three_cell ts))
+    ended (ok b) l h = let none : drop i ts ≡ [] = drop_of_length-le ts {i = i} h in rw none at l.rest
+    ended (refuse q) l h = l.rest
+
+    pub turn-refused : (q : ℕ) → Left f ts m₀ i (refuse q) → refuse q ≡ (m₀ >>= each f (map three_cell ts))
+    turn-refused q l = l.rest
 
     module _ (h : i < length ts) where
       here : drop i ts ≡ get_or ts i [] ∷ drop (i + 1) ts
       here = rw add-one (drop-cons ts i [] h)
 
-      both : (valid_words (get_or (get_or ts i []) 0 0) (get_or (get_or ts i []) 1 0) (get_or (get_or ts i []) 2 0) ≡ true) × (valid_cells (drop (i + 1) ts) ≡ true)
-      both = and_parts _ _ (rw here at l.cells)
+      both : {m : Res Barrier} → Left f ts m₀ i m → (valid_words (get_or (get_or ts i []) 0 0) (get_or (get_or ts i []) 1 0) (get_or (get_or ts i []) 2 0) ≡ true) × (valid_cells (drop (i + 1) ts) ≡ true)
+      both l = and_parts _ _ (rw here at l.cells)
 
-      pub valid-here : valid_words (get_or (get_or ts i []) 0 0) (get_or (get_or ts i []) 1 0) (get_or (get_or ts i []) 2 0) ≡ true
-      valid-here = both.0
+      pub valid-here : {m : Res Barrier} → Left f ts m₀ i m → valid_words (get_or (get_or ts i []) 0 0) (get_or (get_or ts i []) 1 0) (get_or (get_or ts i []) 2 0) ≡ true
+      valid-here l = (both l).0
 
-      next : (f (three_cell (get_or ts i [])) b >>= each f (map three_cell (drop (i + 1) ts))) ≡ each f (map three_cell ts) b₀
-      next = rw here at l.rest
+      next : (b : Barrier) → Left f ts m₀ i (ok b) → (f (three_cell (get_or ts i [])) b >>= each f (map three_cell (drop (i + 1) ts))) ≡ (m₀ >>= each f (map three_cell ts))
+      next b l = rw here at l.rest
 
-      on : (c : Barrier) → f (three_cell (get_or ts i [])) b ≡ ok c → Left f ts b₀ (i + 1) c
-      on c e = record { cells = both.1; rest = rw e at next }
+      pub turn-skip : {own : ℕ} {g : ℕ → Barrier → Res Barrier} → Steps own f g → crossing (get_or (get_or ts i []) 0 0) own ≡ false → (m : Res Barrier) → Left f ts m₀ i m → Left f ts m₀ (i + 1) m
+      turn-skip s e (ok b) l = record { cells = (both l).1; rest = rw (skip s _ _ _ b e) at (next b l) }
+      turn-skip s e (refuse q) l = record { cells = (both l).1; rest = l.rest }
 
-      pub turn-skip : {own : ℕ} {g : ℕ → Barrier → Res Barrier} → Steps own f g → crossing (get_or (get_or ts i []) 0 0) own ≡ false → Left f ts b₀ (i + 1) b
-      turn-skip s e = on b (skip s _ _ _ b e)
-
-      module _ (v : Value) (a : Result WriteBarrier Question) (is : Spelled (get_or (get_or ts i []) 0 0) (get_or (get_or ts i []) 1 0) (get_or (get_or ts i []) 2 0) v) (e : answer barrier_of a ≡ f (value_cell v) b) where
-        pub turn-done : (d : WriteBarrier) → a ≡ Ok d → Left f ts b₀ (i + 1) (barrier_of d)
-        turn-done d k = on (barrier_of d) (ap (λ (x : Cell). f x b) (sym is.cell) ∙ sym e ∙ rw k)
-
-        pub turn-refused : (q : Question) → a ≡ Err q → refuse (number q) ≡ each f (map three_cell ts) b₀
-        turn-refused q k =
-            let no : f (three_cell (get_or ts i [])) b ≡ refuse (number q) = ap (λ (x : Cell). f x b) (sym is.cell) ∙ sym e ∙ rw k in
-            rw no at next
+      pub turn-counted : (b : Barrier) → Left f ts m₀ i (ok b) → (v : Value) → Spelled (get_or (get_or ts i []) 0 0) (get_or (get_or ts i []) 1 0) (get_or (get_or ts i []) 2 0) v → {m : Res Barrier} → m ≡ f (value_cell v) b → Left f ts m₀ (i + 1) m
+      turn-counted b l v is e = record { cells = (both l).1; rest = rw (e, is.cell) (next b l) }

@@ -67,16 +67,20 @@ module _ (k : ℕ) (f : Barrier → Res Barrier) (i : ℕ) (b : Barrier) (z : Re
   unfolding times
   times_none h = let none : k - i ≡ 0 = omega arith in rw none at left
 
-  module _ (h : i < k) (r : Result WriteBarrier Question) (e : answer barrier_of r ≡ f b) where
-    parted : (f b >>= times (k - (i + 1)) f) ≡ z
+  module _ (h : i < k) where
+    times_more : (f b >>= times (k - (i + 1)) f) ≡ z
     unfolding times
-    parted = let more : k - i ≡ suc (k - (i + 1)) = omega arith in rw more at left
+    times_more = let more : k - i ≡ suc (k - (i + 1)) = omega arith in rw more at left
+
+  module _ (h : i < k) (r : Result WriteBarrier Question) (e : answer barrier_of r ≡ f b) where
+    pub times-after : (answer barrier_of r >>= times (k - (i + 1)) f) ≡ z
+    times-after = rw e (times_more h)
 
     pub times-less : (d : WriteBarrier) → r ≡ Ok d → times (k - (i + 1)) f (barrier_of d) ≡ z
-    times-less d done = then-done _ (times (k - (i + 1)) f) r e d done ∙ parted
+    times-less d done = then-done _ (times (k - (i + 1)) f) r e d done ∙ times_more h
 
     pub times-refused : (q : Question) → r ≡ Err q → refuse (number q) ≡ z
-    times-refused q out = then-refused _ (times (k - (i + 1)) f) r e q out ∙ parted
+    times-refused q out = then-refused _ (times (k - (i + 1)) f) r e q out ∙ times_more h
 
 -- steps that answer alike
 pub times-same : {B : Type 0} (k : ℕ) (f g : B → Res B) → ((b : B) → f b ≡ g b) → (b : B) → times k f b ≡ times k g b

@@ -5,11 +5,12 @@
 ghost use Rattle.std.specs.Prelude.{◌≡◌};
 ghost use Rattle.question.specs.Question.{answer};
 ghost use Rattle.value.specs.Value.{value_cell};
-ghost use Rattle.barrier.specs.Counts.{barrier_of, step_of};
+ghost use Rattle.model.specs.Barrier.{count_in, count_out};
+ghost use Rattle.barrier.specs.Counts.{barrier_of};
 ghost use Rattle.slots.specs.Slots.{move_of};
 ghost use Rattle.changes.specs.Changes.{times, count_change};
 
-use barrier::{Way, WriteBarrier};
+use barrier::WriteBarrier;
 use question::Question;
 use slots::Move;
 use value::Value;
@@ -32,28 +33,40 @@ fn count_both(
 ) -> Result<WriteBarrier, Question>
     ensures { answer barrier_of result ≡ times k (count_change own (move_of moved)) (barrier_of barrier) }
 {
-    let cells = k;
-    for _ in 0..cells {
+    for _ in 0..k {
         barrier = count_change(own, moved, barrier)?;
     }
     Ok(barrier)
 }
 
-// A value counted k times.
+// A value counted in k times. Not by `?`, nor by one function for both ways: either copies the barrier once more in each step.
 #[tactic(auto, using(crate::proofs::Steps::laws))]
-fn count_one(
-    k: usize,
-    own: u8,
-    way: Way,
-    v: Value,
-    mut barrier: WriteBarrier,
-) -> Result<WriteBarrier, Question>
-    ensures { answer barrier_of result ≡ times k (step_of way own (value_cell v)) (barrier_of barrier) }
+fn counted_in(k: usize, own: u8, v: Value, barrier: WriteBarrier) -> Result<WriteBarrier, Question>
+    ensures { answer barrier_of result ≡ times k (count_in own (value_cell v)) (barrier_of barrier) }
 {
+    let mut counted = Ok(barrier);
     for _ in 0..k {
-        barrier = barrier.count(own, way, v)?;
+        let Ok(reached) = counted else {
+            return counted;
+        };
+        counted = reached.count_in(own, v);
     }
-    Ok(barrier)
+    counted
+}
+
+// The same counted out.
+#[tactic(auto, using(crate::proofs::Steps::laws))]
+fn counted_out(k: usize, own: u8, v: Value, barrier: WriteBarrier) -> Result<WriteBarrier, Question>
+    ensures { answer barrier_of result ≡ times k (count_out own (value_cell v)) (barrier_of barrier) }
+{
+    let mut counted = Ok(barrier);
+    for _ in 0..k {
+        let Ok(reached) = counted else {
+            return counted;
+        };
+        counted = reached.count_out(own, v);
+    }
+    counted
 }
 
 // All k of them; the first refusal ends it. A pointer that moves to the other heap counts in one of the two steps, and the other is not
@@ -69,10 +82,10 @@ pub fn count_changes(
     let was = moved.was();
     let becomes = moved.becomes();
     if was.crossing(own).is_none() {
-        return count_one(k, own, Way::In, becomes, barrier);
+        return counted_in(k, own, becomes, barrier);
     }
     if becomes.crossing(own).is_none() {
-        return count_one(k, own, Way::Out, was, barrier);
+        return counted_out(k, own, was, barrier);
     }
     count_both(k, own, moved, barrier)
 }

@@ -10,7 +10,6 @@ ghost use Rattle.figure.specs.Written.{Room, Writes};
 pub mod text;
 
 use question::Question;
-use std::cmp::Ordering;
 use text::Text;
 
 // The sign stands beside the thousandths, as the C interface hands them on. An i64 would hold fewer.
@@ -23,7 +22,7 @@ pub struct Figure {
 // The most thousandths: 999999.999.
 const MOST: u64 = 999999999;
 
-// a / c rounded to a whole number. The rule for a tie stands here alone.
+// a / c rounded to a whole number. The rule for a tie stands here alone: of a rest as large as what is missing, the last digit decides.
 fn round(a: u64, c: u64) -> u64
     requires { 0 < c }
     ensures { result ≡ rounded a c }
@@ -31,11 +30,7 @@ fn round(a: u64, c: u64) -> u64
     let whole = a / c;
     let rest = a % c;
     let missing = c - rest;
-    match rest.cmp(&missing) {
-        Ordering::Less => whole,
-        Ordering::Equal => whole + whole % 2,
-        Ordering::Greater => whole + 1,
-    }
+    whole + u64::from(missing < rest + whole % 2)
 }
 
 // The thousandfold of q / 2^h, rounded. From 64 on 2^h is no u64, and the thousandfold is below a half.
