@@ -157,7 +157,7 @@ module _ {w roots s : List ℕ} {what : Request} {c : Collected} {u t : List ℕ
 
     -- the next survivor
     module _ (more : i < moved) where
-      pub survivor-inside : length v + (3 * i + 1) < length x
+      pub survivor-inside : length v + (3 * i + 2) < length x
       unfolding scratch_length
       survivor-inside = omega (arith, length-is, few-moved, b.ready.room, p.long)
 

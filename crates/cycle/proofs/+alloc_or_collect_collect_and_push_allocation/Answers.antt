@@ -62,7 +62,7 @@ collect_and_push_allocation-loop-i-init t c =
 pub collect_and_push_allocation-survivor-base-requires : goal.collect_and_push_allocation-survivor-base-requires
 collect_and_push_allocation-survivor-base-requires t c =
     let b = collected t (goal.at.collect_and_push_allocation-survivor-base-requires t c).In_ok-c in
-    survivor-inside b c.loop-i.invariant c.loop-i-test.true
+    omega (arith, survivor-inside b c.loop-i.invariant c.loop-i-test.true)
 
 pub collect_and_push_allocation-alloc_or_collect-requires-in-loop-i : goal.collect_and_push_allocation-alloc_or_collect-requires-in-loop-i
 collect_and_push_allocation-alloc_or_collect-requires-in-loop-i t c =
